@@ -1,7 +1,7 @@
 // The terms that a command quotes, and the stored theorems that it names.
 use crate::names::is_theorem_place;
 use crate::span::Span;
-use hol_explain_words::{Kind, Known, NoMemory, Piece, between, given, text_of};
+use hol_explain_words::{Kind, Known, Message, Piece, between, text_of};
 use hol_syntax::{read_sequent, read_term};
 use hol_terms::Term;
 use std::alloc::Global;
@@ -39,17 +39,18 @@ impl Premise {
         line: String,
         at: usize,
         length: usize,
-    ) -> Result<Option<Premise>, NoMemory> {
+        message: &mut Message,
+    ) -> Option<Premise> {
         let read = read_sequent(alloc, &known.scope, sequent(line.as_str(), length));
-        match given(read)? {
-            Some((hypotheses, conclusion)) => Ok(Some(Premise {
+        match message.given(read) {
+            Some((hypotheses, conclusion)) => Some(Premise {
                 at,
                 length,
                 line,
                 hypotheses,
                 conclusion,
-            })),
-            None => Ok(None),
+            }),
+            None => None,
         }
     }
 
@@ -91,10 +92,11 @@ fn quoted_at(
     known: &Known,
     piece: &Piece<'_>,
     at: usize,
-) -> Result<Option<Quotation>, NoMemory> {
-    match given(read_term(alloc, &known.scope, piece.quoted(at)))? {
-        Some(term) => Ok(Some(Quotation { at, term })),
-        None => Ok(None),
+    message: &mut Message,
+) -> Option<Quotation> {
+    match message.given(read_term(alloc, &known.scope, piece.quoted(at))) {
+        Some(term) => Some(Quotation { at, term }),
+        None => None,
     }
 }
 
@@ -105,13 +107,14 @@ fn push_terms(
     piece: &Piece<'_>,
     span: Span,
     terms: &mut Vec<Option<Quotation>>,
-) -> Result<(), NoMemory> {
+    message: &mut Message,
+) {
     for at in span.from..span.to {
         if piece.kind(at) == Kind::Quote {
-            terms.push(quoted_at(alloc, known, piece, at)?)?;
+            let quoted = quoted_at(alloc, known, piece, at, message);
+            let _pushed = message.made(terms.push(quoted));
         }
     }
-    Ok(())
 }
 
 impl Arguments {
@@ -121,12 +124,13 @@ impl Arguments {
         known: &Known,
         piece: &Piece<'_>,
         span: Span,
-    ) -> Result<Arguments, NoMemory> {
+        message: &mut Message,
+    ) -> Arguments {
         let mut arguments = Arguments {
             terms: Vec::new(alloc),
             theorems: Vec::new(alloc),
         };
-        push_terms(alloc, known, piece, span, &mut arguments.terms)?;
-        Ok(arguments)
+        push_terms(alloc, known, piece, span, &mut arguments.terms, message);
+        arguments
     }
 }

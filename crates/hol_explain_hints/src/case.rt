@@ -1,7 +1,7 @@
 // A refused command.
 use crate::arguments::{Arguments, Premise, Quotation};
 use crate::said::{Said, Teller};
-use hol_explain_words::{Known, Message, NoMemory, Piece};
+use hol_explain_words::{Known, Message, Piece};
 use hol_model::Fault;
 use std::alloc::Global;
 
@@ -30,20 +30,13 @@ impl<'a> Case<'a> {
     }
 
     /// Says parts on the word at a place in the list.
-    pub(crate) fn say(
-        &self,
-        message: &mut Message,
-        at: usize,
-        parts: &[Said<'_>],
-    ) -> Result<bool, NoMemory> {
-        message.at = self.piece.start(at);
-        self.push(message, parts)?;
-        Ok(true)
+    pub(crate) fn say(&self, message: &mut Message, at: usize, parts: &[Said<'_>]) {
+        self.teller().say(message, self.piece.start(at), parts);
     }
 
     /// Puts parts at the end of what is said.
-    pub(crate) fn push(&self, message: &mut Message, parts: &[Said<'_>]) -> Result<(), NoMemory> {
-        self.teller().push(&mut message.text, parts)
+    pub(crate) fn push(&self, message: &mut Message, parts: &[Said<'_>]) {
+        self.teller().push(message, parts);
     }
 
     /// The word of the rule of a `thm`.

@@ -4,7 +4,7 @@ use crate::said::Said::{Quoted, Shown, Text};
 use crate::shapes::wanted;
 use crate::span::{Span, next_outside};
 use crate::taken::push_given;
-use hol_explain_words::{Message, NoMemory, Piece, between, end_of_conversion, text_of};
+use hol_explain_words::{Message, Piece, between, end_of_conversion, text_of};
 use hol_terms::{Parts, Term};
 
 // What joins two conversions.
@@ -56,11 +56,7 @@ fn innermost<'a>(piece: &Piece<'_>, whole: Applied<'a>) -> Applied<'a> {
 }
 
 // Puts a conversion at the end, what it wants, and the term that it is applied to.
-fn push_applied<'a>(
-    case: &Case<'a>,
-    message: &mut Message,
-    applied: Applied<'a>,
-) -> Result<(), NoMemory> {
+fn push_applied<'a>(case: &Case<'a>, message: &mut Message, applied: Applied<'a>) {
     let (lead, wanted, joint) = match wanted(case.piece.text(applied.span.from)) {
         Some(wanted) => (" wants ", wanted, ", and is applied to "),
         None => ("", "", " is applied to "),
@@ -73,7 +69,7 @@ fn push_applied<'a>(
         Text(joint),
         Shown(applied.term),
     ];
-    case.push(message, &parts)
+    case.push(message, &parts);
 }
 
 /// Puts the conversion that does not apply at the end, what it wants, and the term that it is applied to: that of the expression
@@ -83,11 +79,11 @@ pub(crate) fn push_conversion<'a>(
     from: usize,
     term: &'a Term,
     message: &mut Message,
-) -> Result<(), NoMemory> {
-    let to = end_of_conversion(case.alloc, case.piece, from)?;
+) {
+    let to = end_of_conversion(case.alloc, case.piece, from, message);
     let span = Span { from, to };
     let applied = innermost(case.piece, Applied { span, term });
-    push_applied(case, message, applied)?;
+    push_applied(case, message, applied);
     message.at = case.piece.start(applied.span.from);
-    push_given(case, applied.span.from, ", and ", message)
+    push_given(case, applied.span.from, ", and ", message);
 }

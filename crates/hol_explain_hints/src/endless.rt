@@ -2,88 +2,92 @@
 use crate::arguments::Premise;
 use crate::case::Case;
 use crate::said::Said::{Quoted, Text};
-use hol_explain_words::{Message, NoMemory, given};
+use hol_explain_words::Message;
 use hol_match::term_match;
 use hol_model::Fault;
 use hol_terms::{Parts, Term, frees};
 use std::alloc::Global;
 
 // Whether a pattern matches a part of a term.
-fn fits_part(alloc: Global, fixed: &[Term], pattern: &Term, term: &Term) -> Result<bool, NoMemory> {
-    if given(term_match(alloc, fixed, pattern, term))?.is_some() {
-        return Ok(true);
+fn fits_part(
+    alloc: Global,
+    fixed: &[Term],
+    pattern: &Term,
+    term: &Term,
+    message: &mut Message,
+) -> bool {
+    if message
+        .given(term_match(alloc, fixed, pattern, term))
+        .is_some()
+    {
+        return true;
     }
     match term.parts() {
-        Parts::Variable(_, _) | Parts::Constant(_, _) => Ok(false),
+        Parts::Variable(_, _) | Parts::Constant(_, _) => false,
         Parts::Combination(function, argument) => {
-            if fits_part(alloc, fixed, pattern, function)? {
-                return Ok(true);
-            }
-            fits_part(alloc, fixed, pattern, argument)
+            fits_part(alloc, fixed, pattern, function, message)
+                || fits_part(alloc, fixed, pattern, argument, message)
         }
-        Parts::Abstraction(_, _, body) => fits_part(alloc, fixed, pattern, body),
+        Parts::Abstraction(_, _, body) => fits_part(alloc, fixed, pattern, body, message),
     }
 }
 
 // Whether a formula gives an equation whose left side matches a part of its right side: under `!`, or of a conjunction.
-fn feeds_itself(alloc: Global, fixed: &[Term], formula: &Term) -> Result<bool, NoMemory> {
+fn feeds_itself(alloc: Global, fixed: &[Term], formula: &Term, message: &mut Message) -> bool {
     let Parts::Combination(function, argument) = formula.parts() else {
-        return Ok(false);
+        return false;
     };
     match (function.parts(), argument.parts()) {
         (Parts::Combination(operator, left), _) => match operator.dest_const() {
-            Some(("=", _)) => fits_part(alloc, fixed, left, argument),
+            Some(("=", _)) => fits_part(alloc, fixed, left, argument, message),
             Some(("/\\", _)) => {
-                if feeds_itself(alloc, fixed, left)? {
-                    return Ok(true);
-                }
-                feeds_itself(alloc, fixed, argument)
+                feeds_itself(alloc, fixed, left, message)
+                    || feeds_itself(alloc, fixed, argument, message)
             }
-            _ => Ok(false),
+            _ => false,
         },
         (Parts::Constant("!", _), Parts::Abstraction(_, _, body)) => {
-            feeds_itself(alloc, fixed, body)
+            feeds_itself(alloc, fixed, body, message)
         }
-        _ => Ok(false),
+        _ => false,
     }
 }
 
-// The variables for which an equation of a theorem puts nothing.
-fn fixed_in(alloc: Global, premise: &Premise) -> Result<Vec<Term>, NoMemory> {
-    let mut fixed = Vec::new(alloc);
+// Puts the variables at the end for which an equation of a theorem puts nothing.
+fn push_fixed(alloc: Global, premise: &Premise, fixed: &mut Vec<Term>, message: &mut Message) {
     for hypothesis in &premise.hypotheses {
-        if let Some(mut variables) = given(frees(alloc, hypothesis))? {
-            fixed.append(&mut variables)?;
+        if let Some(mut variables) = message.given(frees(alloc, hypothesis)) {
+            let _appended = message.made(fixed.append(&mut variables));
         }
     }
-    Ok(fixed)
 }
 
 // Whether an equation of a theorem matches a part of what it makes.
-fn is_endless(alloc: Global, premise: &Premise) -> Result<bool, NoMemory> {
-    let fixed = fixed_in(alloc, premise)?;
-    feeds_itself(alloc, &fixed, &premise.conclusion)
+fn is_endless(alloc: Global, premise: &Premise, message: &mut Message) -> bool {
+    let mut fixed = Vec::new(alloc);
+    push_fixed(alloc, premise, &mut fixed, message);
+    feeds_itself(alloc, &fixed, &premise.conclusion, message)
 }
 
 // The first theorem that was given, by which rewriting may have no end.
-fn first_endless<'a>(case: &Case<'a>) -> Result<Option<&'a Premise>, NoMemory> {
+fn first_endless<'a>(case: &Case<'a>, message: &mut Message) -> Option<&'a Premise> {
     for number in 0..case.arguments.theorems.len() {
         if let Some(premise) = case.theorem(number) {
-            if is_endless(case.alloc, premise)? {
-                return Ok(Some(premise));
+            if is_endless(case.alloc, premise, message) {
+                return Some(premise);
             }
         }
     }
-    Ok(None)
+    None
 }
 
 /// Puts the theorem at the end by which a `REWRITE_TAC` may have no end, where it passes a limit.
-pub(crate) fn push_endless(case: &Case<'_>, message: &mut Message) -> Result<(), NoMemory> {
+pub(crate) fn push_endless(case: &Case<'_>, message: &mut Message) {
     if !matches!(case.fault, Fault::StepLimit | Fault::TooLarge) {
-        return Ok(());
+        return;
     }
-    let Some(premise) = first_endless(case)? else {
-        return Ok(());
+    let Some(premise) = first_endless(case, message) else {
+        return;
     };
     let name = premise.name();
     let parts = [
@@ -94,5 +98,5 @@ pub(crate) fn push_endless(case: &Case<'_>, message: &mut Message) -> Result<(),
         Text(name),
         Text("))` uses it once"),
     ];
-    case.push(message, &parts)
+    case.push(message, &parts);
 }

@@ -1,6 +1,6 @@
 // Refiner expressions: their parts, and what stands behind their joints.
 use crate::span::{Span, next_outside};
-use hol_explain_words::{NoMemory, Piece, between};
+use hol_explain_words::{Message, Piece, between};
 use std::alloc::Global;
 
 const JOINTS: (&str, &str) = ("THEN", "THENL");
@@ -9,18 +9,13 @@ const MEMBER_ENDS: (&str, &str) = (";", "]");
 
 const CLOSING: (&str, &str) = (")", ")");
 
-// Puts the command `e` of a part at the end.
-fn push_command(text: &mut Vec<u8>, piece: &Piece<'_>, span: Span) -> Result<(), NoMemory> {
-    text.extend_from_slice(b"e ")?;
-    text.extend_from_slice(between(piece.bytes, piece.start(span.from), piece.start(span.to)))?;
-    Ok(())
-}
-
-/// The command `e` of a part.
-pub fn command_of(alloc: Global, piece: &Piece<'_>, span: Span) -> Result<Vec<u8>, NoMemory> {
+/// The command `e` of a part. A message is told where there was no memory for it.
+pub fn command_of(alloc: Global, piece: &Piece<'_>, span: Span, message: &mut Message) -> Vec<u8> {
+    let part = between(piece.bytes, piece.start(span.from), piece.start(span.to));
     let mut text = Vec::new(alloc);
-    push_command(&mut text, piece, span)?;
-    Ok(text)
+    let _begun = message.made(text.extend_from_slice(b"e "));
+    let _ended = message.made(text.extend_from_slice(part));
+    text
 }
 
 /// A part without the parentheses around it.

@@ -30,11 +30,9 @@ pub use arguments::{Arguments, Premise, is_looked_up, span_of};
 pub use case::Case;
 pub use expressions::{command_of, first_member, has_misfit, next_joint, next_member, unwrapped};
 pub use goals::{Part, first_goal, of_part};
-pub use hol_explain_words::{
-    Known, Message, NoMemory, Piece, between, count_of_goals, given, no_command,
-};
-pub use notes::{Accepted, first_kept, has_pairs, next_rewriting, push_notes, unchanged};
-pub use place::Place;
+pub use hol_explain_words::{Known, Message, NoMemory, Piece, between, count_of_goals, no_command};
+pub use notes::{Accepted, first_kept, has_pairs, next_rewriting, push_notes, push_unchanged};
+pub use place::{Origin, Place, located, origin_of};
 pub use refused::{of_case, plain};
-pub use report::{noted, told, unended, unfinished};
+pub use report::{push_refusal, unended};
 pub use span::Span;

@@ -3,7 +3,7 @@ use crate::arguments::Quotation;
 use crate::case::Case;
 use crate::parts::sides;
 use crate::said::Said::{Quoted, Text, Typed};
-use hol_explain_words::{Message, NoMemory};
+use hol_explain_words::Message;
 use hol_terms::Term;
 
 const UNFIT: &str = " finds types that do not fit";
@@ -17,24 +17,22 @@ fn left_side<'a>(case: &Case<'a>, number: usize) -> Option<&'a Term> {
 }
 
 // Says that the types do not fit, and no more.
-fn unfit(case: &Case<'_>, message: &mut Message, at: usize) -> Result<bool, NoMemory> {
-    case.say(message, at, &[Quoted(case.rule()), Text(UNFIT)])
+fn unfit(case: &Case<'_>, message: &mut Message, at: usize) {
+    case.say(message, at, &[Quoted(case.rule()), Text(UNFIT)]);
 }
 
 // Says the left sides of the equations that `MK_COMB` applies to one another, which do not fit.
-fn misapplied(case: &Case<'_>, message: &mut Message) -> Result<bool, NoMemory> {
-    let said = unfit(case, message, 4)?;
-    let (Some(function), Some(argument)) = (left_side(case, 0), left_side(case, 1)) else {
-        return Ok(said);
-    };
-    let parts = [
-        Text(": the function "),
-        Typed(function),
-        Text(", and its argument "),
-        Typed(argument),
-    ];
-    case.push(message, &parts)?;
-    Ok(said)
+fn misapplied(case: &Case<'_>, message: &mut Message) {
+    unfit(case, message, 4);
+    if let (Some(function), Some(argument)) = (left_side(case, 0), left_side(case, 1)) {
+        let parts = [
+            Text(": the function "),
+            Typed(function),
+            Text(", and its argument "),
+            Typed(argument),
+        ];
+        case.push(message, &parts);
+    }
 }
 
 // The pair of a number of `INST`, where its terms have different types.
@@ -60,32 +58,17 @@ fn first_unequal<'a>(case: &Case<'a>) -> Option<(&'a Quotation, &'a Quotation)> 
 }
 
 // Says the first pair of `INST` whose terms have different types.
-fn unequal_pair(case: &Case<'_>, message: &mut Message) -> Result<bool, NoMemory> {
-    let said = unfit(case, message, 4)?;
-    let Some((new, old)) = first_unequal(case) else {
-        return Ok(said);
-    };
-    let parts = [
-        Text(": "),
-        Typed(&new.term),
-        Text(", and "),
-        Typed(&old.term),
-    ];
-    case.push(message, &parts)?;
-    Ok(said)
-}
-
-// Says the types of a term, and of the variable of a formula that it is to stand for.
-fn unlike_variable(
-    case: &Case<'_>,
-    message: &mut Message,
-    quotation: &Quotation,
-    formula: &Term,
-) -> Result<bool, NoMemory> {
-    let said = unfit(case, message, quotation.at)?;
-    case.teller()
-        .push_misfit(&mut message.text, formula, &quotation.term)?;
-    Ok(said)
+fn unequal_pair(case: &Case<'_>, message: &mut Message) {
+    unfit(case, message, 4);
+    if let Some((new, old)) = first_unequal(case) {
+        let parts = [
+            Text(": "),
+            Typed(&new.term),
+            Text(", and "),
+            Typed(&old.term),
+        ];
+        case.push(message, &parts);
+    }
 }
 
 // The term of `EXISTS`, or of another rule, that is to stand for the variable of a formula.
@@ -97,14 +80,19 @@ fn stand_in<'a>(case: &Case<'a>) -> Option<(&'a Quotation, &'a Term)> {
     }
 }
 
+// Says the types of a term, and of the variable of a formula that it is to stand for.
+fn unlike_variable(case: &Case<'_>, message: &mut Message) {
+    if let Some((quotation, formula)) = stand_in(case) {
+        unfit(case, message, quotation.at);
+        case.teller().push_misfit(message, formula, &quotation.term);
+    }
+}
+
 /// Says the two types that do not fit, of the terms and the theorems of a rule.
-pub(crate) fn mistyped(case: &Case<'_>, message: &mut Message) -> Result<bool, NoMemory> {
+pub(crate) fn mistyped(case: &Case<'_>, message: &mut Message) {
     match case.rule() {
         "MK_COMB" => misapplied(case, message),
         "INST" => unequal_pair(case, message),
-        _ => match stand_in(case) {
-            Some((quotation, formula)) => unlike_variable(case, message, quotation, formula),
-            None => Ok(false),
-        },
+        _ => unlike_variable(case, message),
     }
 }

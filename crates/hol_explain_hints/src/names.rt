@@ -3,8 +3,7 @@ use crate::case::Case;
 use crate::said::Said::{Quoted, Text};
 use crate::said::Teller;
 use hol_explain_words::{
-    Kind, Known, Message, NoMemory, Piece, Unknown, is_among, is_before_theorem, line_of_pair,
-    push_unknown,
+    Kind, Known, Message, Piece, Unknown, is_among, is_before_theorem, line_of_pair,
 };
 
 // Whether the name at a place in the list is that of a host's function.
@@ -85,13 +84,10 @@ fn first_unknown<'a>(case: &Case<'a>) -> Option<(usize, Unknown<'a>)> {
 }
 
 /// Says the first name of a theorem or of a host's function that is unknown.
-pub(crate) fn in_names(case: &Case<'_>, message: &mut Message) -> Result<bool, NoMemory> {
-    let Some((at, unknown)) = first_unknown(case) else {
-        return Ok(false);
-    };
-    message.at = case.piece.start(at);
-    push_unknown(case.alloc, &mut message.text, &unknown)?;
-    Ok(true)
+pub(crate) fn in_names(case: &Case<'_>, message: &mut Message) {
+    if let Some((at, unknown)) = first_unknown(case) {
+        message.say_unknown(case.alloc, case.piece.start(at), &unknown);
+    }
 }
 
 /// How many parentheses are open in a type behind a word, with one for the colon before it; none outside of types.
@@ -126,10 +122,10 @@ pub(crate) fn unknown_type(
     piece: &Piece<'_>,
     from: usize,
     in_type: bool,
-) -> Result<bool, NoMemory> {
+) {
     let known = teller.known;
     let Some(at) = first_untyped(known, piece, from, in_type) else {
-        return Ok(false);
+        return;
     };
     let unknown = Unknown {
         said: "no type is named",
@@ -139,9 +135,7 @@ pub(crate) fn unknown_type(
         lost: &known.lost_names,
         otherwise: "; `newtype` declares one, and a type variable begins with a capital letter",
     };
-    message.at = piece.start(at);
-    push_unknown(teller.alloc, &mut message.text, &unknown)?;
-    Ok(true)
+    message.say_unknown(teller.alloc, piece.start(at), &unknown);
 }
 
 // What is said behind a name that a command may not make known: by the refusal and the word of the command, or any word.
@@ -165,9 +159,8 @@ fn behind_name(fault: &str, word: &str) -> Option<&'static str> {
 }
 
 /// Says what is wrong with a name that a command makes.
-pub(crate) fn at_new_name(case: &Case<'_>, message: &mut Message) -> Result<bool, NoMemory> {
-    match behind_name(case.fault.name(), case.piece.text(0)) {
-        Some(said) => case.say(message, 1, &[Quoted(case.piece.text(1)), Text(said)]),
-        None => Ok(false),
+pub(crate) fn at_new_name(case: &Case<'_>, message: &mut Message) {
+    if let Some(said) = behind_name(case.fault.name(), case.piece.text(0)) {
+        case.say(message, 1, &[Quoted(case.piece.text(1)), Text(said)]);
     }
 }

@@ -3,21 +3,25 @@ use crate::arguments::{Arguments, Premise, Quotation};
 use crate::expressions::next_joint;
 use crate::goals::has_alternatives;
 use crate::names::is_theorem_place;
+use crate::place::{Origin, Place, located};
 use crate::replaced::push_types;
 use crate::said::Said::{Quoted, Shown, Text};
 use crate::said::{Said, Teller};
 use crate::span::Span;
-use hol_explain_words::{Kind, Known, Message, NoMemory, Piece, given, goes_on};
+use hol_explain_words::{Kind, Known, Message, Piece, between, goes_on};
+use hol_model::Fault;
 use hol_syntax::read_term;
 use hol_terms::{Term, free_in, frees};
 use std::alloc::Global;
 
-/// An accepted command, with what is known where it stands.
+/// An accepted command, with what is known where it stands, the files of its script, and the place behind the command before it.
 #[derive(Clone, Copy)]
 pub struct Accepted<'a> {
     pub alloc: Global,
     pub known: &'a Known,
+    pub origins: &'a [Origin<'a>],
     pub piece: &'a Piece<'a>,
+    pub place: Place,
     pub arguments: &'a Arguments,
 }
 
@@ -31,17 +35,15 @@ impl<'a> Accepted<'a> {
         }
     }
 
-    /// Puts a note on what stands at an offset at the end.
-    pub(crate) fn push(
-        &self,
-        notes: &mut Vec<Message>,
-        at: usize,
-        parts: &[Said<'_>],
-    ) -> Result<(), NoMemory> {
-        let mut note = Message::empty(self.alloc);
-        self.teller().say(&mut note, at, parts)?;
-        notes.push(note)?;
-        Ok(())
+    /// Puts the line of a note on what stands at an offset at the end.
+    pub(crate) fn push(&self, notes: &mut Message, at: usize, parts: &[Said<'_>]) {
+        let here = self.place.behind(between(self.piece.bytes, 0, at));
+        let (file, here) = located(self.origins, &here);
+        let line = here.line;
+        let column = here.column;
+        notes.push_made(format!(in self.alloc; "{file}:{line}:{column}: note: "));
+        self.teller().push(notes, parts);
+        notes.push_str("\n");
     }
 
     // The argument of this number among those between backquotes, where it is a term.
@@ -54,41 +56,38 @@ impl<'a> Accepted<'a> {
 }
 
 // Says that a goal takes the place of one that was proved at a place.
-fn push_unsaved(of: &Accepted<'_>, notes: &mut Vec<Message>, place: &str) -> Result<(), NoMemory> {
+fn push_unsaved(of: &Accepted<'_>, notes: &mut Message, place: &str) {
     let parts = [
         Text("the goal that was proved in "),
         Text(place),
         Text(" is given up here, and its theorem is not stored: `save` stores it"),
     ];
-    of.push(notes, of.piece.start(0), &parts)
+    of.push(notes, of.piece.start(0), &parts);
 }
 
 // Says that a goal takes the place of one of whose proof so many goals are open.
-fn push_open(of: &Accepted<'_>, notes: &mut Vec<Message>, open: usize) -> Result<(), NoMemory> {
+fn push_open(of: &Accepted<'_>, notes: &mut Message, open: usize) {
     let end = if open == 1 { "" } else { "s" };
     let said = format!(in of.alloc;
         "the proof of the goal before is given up, with {open} open goal{end}"
-    )?;
-    of.push(notes, of.piece.start(0), &[Text(said.as_str())])
+    );
+    if let Some(said) = notes.made(said) {
+        of.push(notes, of.piece.start(0), &[Text(said.as_str())]);
+    }
 }
 
 // Says that a new goal takes the place of a proved one, or of one whose proof was begun.
-fn push_replaced(of: &Accepted<'_>, notes: &mut Vec<Message>) -> Result<(), NoMemory> {
+fn push_replaced(of: &Accepted<'_>, notes: &mut Message) {
     let proof = &of.known.proof;
     match &proof.unsaved {
         Some(place) => push_unsaved(of, notes, place.as_str()),
         None if proof.open > 0 && proof.steps > 0 => push_open(of, notes, proof.open),
-        None => Ok(()),
+        None => {}
     }
 }
 
 // Says that a command goes on with the goal of a place, where the one of another place was refused.
-fn push_older<'b>(
-    of: &Accepted<'_>,
-    notes: &mut Vec<Message>,
-    begun: &'b str,
-    refused: &'b str,
-) -> Result<(), NoMemory> {
+fn push_older<'b>(of: &Accepted<'_>, notes: &mut Message, begun: &'b str, refused: &'b str) {
     let parts = [
         Text("this goes on with the goal of "),
         Text(begun),
@@ -96,30 +95,25 @@ fn push_older<'b>(
         Text(refused),
         Text(" was refused"),
     ];
-    of.push(notes, of.piece.start(0), &parts)
+    of.push(notes, of.piece.start(0), &parts);
 }
 
 // Says that a command goes on with the goal before one that was refused.
-fn push_continued(of: &Accepted<'_>, notes: &mut Vec<Message>) -> Result<(), NoMemory> {
-    let Some(refused) = &of.known.proof.refused else {
-        return Ok(());
-    };
-    match &of.known.proof.begun {
-        Some(begun) => push_older(of, notes, begun.as_str(), refused.as_str()),
-        None => Ok(()),
+fn push_continued(of: &Accepted<'_>, notes: &mut Message) {
+    let proof = &of.known.proof;
+    if let (Some(begun), Some(refused)) = (&proof.begun, &proof.refused) {
+        push_older(of, notes, begun.as_str(), refused.as_str());
     }
 }
 
 // Says what happens to the goal that is set.
-fn push_goal(of: &Accepted<'_>, notes: &mut Vec<Message>) -> Result<(), NoMemory> {
+fn push_goal(of: &Accepted<'_>, notes: &mut Message) {
     let word = of.piece.text(0);
     if word == "goal" {
-        return push_replaced(of, notes);
+        push_replaced(of, notes);
+    } else if goes_on(word) {
+        push_continued(of, notes);
     }
-    if goes_on(word) {
-        return push_continued(of, notes);
-    }
-    Ok(())
 }
 
 /// The place in the list of the first name of a theorem under which a refused command would have stored another one.
@@ -134,13 +128,13 @@ pub fn first_kept(known: &Known, piece: &Piece<'_>) -> Option<usize> {
 }
 
 // Says that a name stands for another theorem than the last command would have stored under it.
-fn push_kept(of: &Accepted<'_>, notes: &mut Vec<Message>) -> Result<(), NoMemory> {
+fn push_kept(of: &Accepted<'_>, notes: &mut Message) {
     let Some(at) = first_kept(of.known, of.piece) else {
-        return Ok(());
+        return;
     };
     let name = of.piece.text(at);
     let Some(place) = of.known.place_kept(name) else {
-        return Ok(());
+        return;
     };
     let parts = [
         Quoted(name),
@@ -148,7 +142,7 @@ fn push_kept(of: &Accepted<'_>, notes: &mut Vec<Message>) -> Result<(), NoMemory
         Text(place),
         Text(", which would have stored another one under the name, was refused"),
     ];
-    of.push(notes, of.piece.start(at), &parts)
+    of.push(notes, of.piece.start(at), &parts);
 }
 
 // Whether a variable with its type stands at a place in the list, in parentheses, and a constant has its name.
@@ -177,20 +171,10 @@ fn is_named(variable: &Term, name: &str) -> bool {
     }
 }
 
-// The free variables of a term.
-fn frees_in(alloc: Global, term: &Term) -> Result<Vec<Term>, NoMemory> {
-    match given(frees(alloc, term))? {
-        Some(variables) => Ok(variables),
-        None => Ok(Vec::new(alloc)),
-    }
-}
-
 // The free variables of a quoted text, where it is a term.
-fn frees_of(alloc: Global, known: &Known, text: &[u8]) -> Result<Vec<Term>, NoMemory> {
-    match given(read_term(alloc, &known.scope, text))? {
-        Some(term) => frees_in(alloc, &term),
-        None => Ok(Vec::new(alloc)),
-    }
+fn frees_of(alloc: Global, known: &Known, text: &[u8]) -> Result<Vec<Term>, Fault> {
+    let term = read_term(alloc, &known.scope, text)?;
+    frees(alloc, &term)
 }
 
 // The first place of a free variable that has the name of a constant, from a place on.
@@ -210,20 +194,7 @@ fn free_from(known: &Known, inside: &Piece<'_>, variables: &[Term], from: usize)
 }
 
 // Says that a free variable of a quoted text, which begins at an offset, has the name of a constant.
-fn push_in_quote(
-    of: &Accepted<'_>,
-    notes: &mut Vec<Message>,
-    inside: &Piece<'_>,
-    start: usize,
-) -> Result<(), NoMemory> {
-    let first = next_named_as_constant(of.known, inside, 0);
-    if first >= inside.words.len() {
-        return Ok(());
-    }
-    let variables = frees_of(of.alloc, of.known, inside.bytes)?;
-    let Some(at) = free_from(of.known, inside, &variables, first) else {
-        return Ok(());
-    };
+fn push_free(of: &Accepted<'_>, notes: &mut Message, inside: &Piece<'_>, start: usize, at: usize) {
     let name = inside.text(at.saturating_add(1));
     let parts = [
         Text("this is a free variable, and not the constant "),
@@ -232,18 +203,31 @@ fn push_in_quote(
         Text(name),
         Text(":type]`"),
     ];
-    of.push(notes, start.saturating_add(inside.start(at)), &parts)
+    of.push(notes, start.saturating_add(inside.start(at)), &parts);
+}
+
+// The same of the first such variable, where the text has one.
+fn push_in_quote(of: &Accepted<'_>, notes: &mut Message, inside: &Piece<'_>, start: usize) {
+    let first = next_named_as_constant(of.known, inside, 0);
+    if first >= inside.words.len() {
+        return;
+    }
+    if let Some(variables) = notes.given(frees_of(of.alloc, of.known, inside.bytes)) {
+        if let Some(at) = free_from(of.known, inside, &variables, first) {
+            push_free(of, notes, inside, start, at);
+        }
+    }
 }
 
 // The same of each quoted text.
-fn push_variables(of: &Accepted<'_>, notes: &mut Vec<Message>) -> Result<(), NoMemory> {
+fn push_variables(of: &Accepted<'_>, notes: &mut Message) {
     for at in 0..of.piece.words.len() {
         if of.piece.kind(at) == Kind::Quote {
-            let inside = Piece::of_quote(of.alloc, of.piece.quoted(at))?;
-            push_in_quote(of, notes, &inside, of.piece.start(at).saturating_add(1))?;
+            if let Some(inside) = notes.made(Piece::of_quote(of.alloc, of.piece.quoted(at))) {
+                push_in_quote(of, notes, &inside, of.piece.start(at).saturating_add(1));
+            }
         }
     }
-    Ok(())
 }
 
 // Whether a variable is free in a theorem.
@@ -270,11 +254,11 @@ fn namesake<'a>(variables: &'a [Term], variable: &Term) -> Option<&'a Term> {
 // Says that nothing is put for a variable in a theorem, whose conclusion has these free variables.
 fn push_idle<'b>(
     of: &Accepted<'_>,
-    notes: &mut Vec<Message>,
+    notes: &mut Message,
     old: &'b Quotation,
     premise: &'b Premise,
     variables: &'b [Term],
-) -> Result<(), NoMemory> {
+) {
     let at = of.piece.start(old.at);
     let lead = Text("nothing is put for ");
     let joint = Text(", which is not free in ");
@@ -298,19 +282,21 @@ fn push_idle<'b>(
 }
 
 // Says which variables of `INST` are not free in its theorem.
-fn push_pairs(of: &Accepted<'_>, notes: &mut Vec<Message>) -> Result<(), NoMemory> {
+fn push_pairs(of: &Accepted<'_>, notes: &mut Message) {
     let Some(Some(premise)) = of.arguments.theorems.first() else {
-        return Ok(());
+        return;
+    };
+    let Some(variables) = notes.given(frees(of.alloc, &premise.conclusion)) else {
+        return;
     };
     for pair in 0..of.arguments.terms.len() / 2 {
-        if let Some(old) = of.term(pair.saturating_mul(2).saturating_add(1)) {
-            if !is_free(&old.term, premise) {
-                let variables = frees_in(of.alloc, &premise.conclusion)?;
-                push_idle(of, notes, old, premise, &variables)?;
+        match of.term(pair.saturating_mul(2).saturating_add(1)) {
+            Some(old) if !is_free(&old.term, premise) => {
+                push_idle(of, notes, old, premise, &variables);
             }
+            _ => {}
         }
     }
-    Ok(())
 }
 
 /// Whether notes on an accepted command want its arguments.
@@ -319,17 +305,18 @@ pub fn has_pairs(piece: &Piece<'_>) -> bool {
 }
 
 /// Puts notes at the end on what is suspicious of an accepted command.
-pub fn push_notes(of: &Accepted<'_>, notes: &mut Vec<Message>) -> Result<(), NoMemory> {
-    push_goal(of, notes)?;
-    push_kept(of, notes)?;
-    push_variables(of, notes)?;
+pub fn push_notes(of: &Accepted<'_>, notes: &mut Message) {
+    push_goal(of, notes);
+    push_kept(of, notes);
+    push_variables(of, notes);
     if !has_pairs(of.piece) {
-        return Ok(());
+        return;
     }
     if of.piece.text(3) == "INST" {
-        return push_pairs(of, notes);
+        push_pairs(of, notes);
+    } else {
+        push_types(of, notes);
     }
-    push_types(of, notes)
 }
 
 /// The next `REWRITE_TAC` or `CONV_TAC` of an expression, outside of all brackets and no alternative, from a part on that begins at a
@@ -354,12 +341,12 @@ pub fn next_rewriting(piece: &Piece<'_>, from: usize) -> Option<Span> {
     None
 }
 
-/// That the `REWRITE_TAC` or the `CONV_TAC` at a place in the list changes no goal.
-pub fn unchanged(alloc: Global, piece: &Piece<'_>, at: usize) -> Result<Message, NoMemory> {
-    let said = if piece.text(at) == "CONV_TAC" {
+/// Puts a note at the end that the `REWRITE_TAC` or the `CONV_TAC` at a place in the list changes no goal.
+pub fn push_unchanged(of: &Accepted<'_>, notes: &mut Message, at: usize) {
+    let said = if of.piece.text(at) == "CONV_TAC" {
         "`CONV_TAC` changes no goal here: its conversion leaves the conclusion as it is"
     } else {
         "`REWRITE_TAC` changes no goal here: none of its equations matches a part (compare names and types)"
     };
-    Message::new(alloc, piece.start(at), said)
+    of.push(notes, of.piece.start(at), &[Text(said)]);
 }

@@ -1,7 +1,7 @@
 // Parts of terms.
 use hol_alpha::aconv;
-use hol_explain_words::{NoMemory, given};
-use hol_model::TERM_HEIGHT_LIMIT;
+use hol_explain_words::Message;
+use hol_model::{Fault, TERM_HEIGHT_LIMIT};
 use hol_subst::vsubst;
 use hol_terms::{Parts, Term};
 use hol_types::Ty;
@@ -40,22 +40,22 @@ pub(crate) fn bound_variable(formula: &Term) -> Option<(&str, &Ty)> {
     variable.dest_var()
 }
 
+// A term with another one in the place of a variable.
+fn with(alloc: Global, body: &Term, variable: &Term, term: &Term) -> Result<Term, Fault> {
+    let new = term.copy(alloc)?;
+    let old = variable.copy(alloc)?;
+    vsubst(alloc, &[(new, old)], body)
+}
+
 /// The body of a quantified formula at a term.
 pub(crate) fn body_at(
     alloc: Global,
     formula: &Term,
     term: &Term,
-) -> Result<Option<Term>, NoMemory> {
-    let Some((variable, body)) = dest_quantified(formula) else {
-        return Ok(None);
-    };
-    let Some(new) = given(term.copy(alloc))? else {
-        return Ok(None);
-    };
-    let Some(old) = given(variable.copy(alloc))? else {
-        return Ok(None);
-    };
-    given(vsubst(alloc, &[(new, old)], body))
+    message: &mut Message,
+) -> Option<Term> {
+    let (variable, body) = dest_quantified(formula)?;
+    message.given(with(alloc, body, variable, term))
 }
 
 // The parts of two terms in which they differ first, one step down; nothing where they differ at the top.

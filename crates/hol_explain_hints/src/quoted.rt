@@ -4,13 +4,11 @@ use crate::said::Said::{Quoted, Text, Type, Typed};
 use crate::said::Teller;
 use crate::seen::type_in;
 use crate::steps::{
-    begin_of_last, binder_sign, infix_sign, is_refused, last_term, names_before, refused_front,
+    begin_of_last, binder_sign, infix_sign, is_refused, names_before, refused_front,
 };
-use hol_explain_words::{
-    Kind, Message, NoMemory, Piece, Unknown, absent, given, push_unknown, text_of,
-};
+use hol_explain_words::{Kind, Message, Piece, Unknown, absent, text_of};
 use hol_model::Fault;
-use hol_syntax::build_type;
+use hol_syntax::{build_type, term_of_steps};
 use hol_syntax_grammar::grammar::Infix;
 use hol_syntax_grammar::{ReadError, TermStep, Token, TypeStep, parse_term, tokens_in};
 use hol_terms::Term;
@@ -74,35 +72,13 @@ impl<'a> Quote<'a> {
     }
 
     // The last term that the first steps make, so many.
-    fn last_term(&self, count: usize) -> Result<Option<Term>, NoMemory> {
-        last_term(
-            self.teller.alloc,
-            &self.teller.known.scope,
-            self.steps,
-            count,
-        )
-    }
-
-    // Says that a name is unknown.
-    fn unknown(
-        &self,
-        message: &mut Message,
-        at: usize,
-        unknown: &Unknown<'_>,
-    ) -> Result<bool, NoMemory> {
-        message.at = at;
-        push_unknown(self.teller.alloc, &mut message.text, unknown)?;
-        Ok(true)
+    fn last_term(&self, message: &mut Message, count: usize) -> Option<Term> {
+        let front = self.steps.get(..count)?;
+        message.given(term_of_steps(self.teller.alloc, &self.teller.known.scope, front))
     }
 
     // Says that a bare name stands for a constant whose type has type variables.
-    fn generic_bare(
-        &self,
-        message: &mut Message,
-        at: usize,
-        name: &'a str,
-        ty: &'a Ty,
-    ) -> Result<bool, NoMemory> {
+    fn generic_bare(&self, message: &mut Message, at: usize, name: &'a str, ty: &'a Ty) {
         let parts = [
             Quoted(name),
             Text(" is a constant with type variables in its type "),
@@ -111,33 +87,19 @@ impl<'a> Quote<'a> {
             Text(name),
             Text(":type]`"),
         ];
-        self.teller.say(message, at, &parts)
+        self.teller.say(message, at, &parts);
     }
 
     // Says that the goal has a variable of the bare name, of the type of a text.
-    fn typed_bare(
-        &self,
-        message: &mut Message,
-        at: usize,
-        name: &str,
-        ty: &str,
-    ) -> Result<bool, NoMemory> {
-        let said = NO_NAME;
+    fn typed_bare(&self, message: &mut Message, at: usize, name: &str, ty: &str) {
         message.at = at;
-        write!(
-            message.text,
-            "{said} `{name}`; the goal has `({name}:{ty})`: write it with its type, or declare `var {name} : {ty}`"
-        )?;
-        Ok(true)
+        message.push_made(format!(in self.teller.alloc;
+            "{NO_NAME} `{name}`; the goal has `({name}:{ty})`: write it with its type, or declare `var {name} : {ty}`"
+        ));
     }
 
     // Says that a bare name stands for nothing.
-    fn undeclared(
-        &self,
-        message: &mut Message,
-        at: usize,
-        name: &'a str,
-    ) -> Result<bool, NoMemory> {
+    fn undeclared(&self, message: &mut Message, at: usize, name: &'a str) {
         let known = self.teller.known;
         let none: &[String] = &[];
         let (first, second, otherwise) = match absent(name) {
@@ -156,27 +118,22 @@ impl<'a> Quote<'a> {
             lost: &known.lost_names,
             otherwise,
         };
-        self.unknown(message, at, &unknown)
+        message.say_unknown(self.teller.alloc, at, &unknown);
     }
 
     // Says why a bare name does not stand for a term.
-    fn at_bare(&self, message: &mut Message, at: usize, name: &'a str) -> Result<bool, NoMemory> {
+    fn at_bare(&self, message: &mut Message, at: usize, name: &'a str) {
         if let Some(ty) = self.teller.known.scope.const_type(name) {
-            return self.generic_bare(message, at, name, ty);
-        }
-        match type_in(self.teller.goal, name) {
-            Some(ty) => self.typed_bare(message, at, name, ty),
-            None => self.undeclared(message, at, name),
+            self.generic_bare(message, at, name, ty);
+        } else if let Some(ty) = type_in(self.teller.goal, name) {
+            self.typed_bare(message, at, name, ty);
+        } else {
+            self.undeclared(message, at, name);
         }
     }
 
     // Says that a constant is not known.
-    fn unknown_constant(
-        &self,
-        message: &mut Message,
-        at: usize,
-        name: &'a str,
-    ) -> Result<bool, NoMemory> {
+    fn unknown_constant(&self, message: &mut Message, at: usize, name: &'a str) {
         let known = self.teller.known;
         let unknown = Unknown {
             said: "no constant is named",
@@ -186,47 +143,47 @@ impl<'a> Quote<'a> {
             lost: &known.lost_names,
             otherwise: "; `def` defines one, and `newconst` declares one",
         };
-        self.unknown(message, at, &unknown)
+        message.say_unknown(self.teller.alloc, at, &unknown);
     }
 
     // Puts a type at the end that is no instance of a constant's own.
-    fn push_no_instance(
-        &self,
-        message: &mut Message,
-        types: &[TypeStep<'_>],
-    ) -> Result<(), NoMemory> {
+    fn push_no_instance(&self, message: &mut Message, types: &[TypeStep<'_>]) {
         let scope = &self.teller.known.scope;
-        let Some(ty) = given(build_type(self.teller.alloc, scope, types))? else {
-            return Ok(());
-        };
-        let parts = [Text(", and "), Type(&ty), Text(" is no instance of it")];
-        self.teller.push(&mut message.text, &parts)
+        if let Some(ty) = message.given(build_type(self.teller.alloc, scope, types)) {
+            let parts = [Text(", and "), Type(&ty), Text(" is no instance of it")];
+            self.teller.push(message, &parts);
+        }
     }
 
-    // Says that a constant is not known, or stands at a type that is no instance of its own.
-    fn at_constant(
+    // Says that a constant stands at a type that is no instance of its own.
+    fn no_instance(
         &self,
         message: &mut Message,
         at: usize,
         name: &'a str,
+        generic: &'a Ty,
         types: &[TypeStep<'_>],
-    ) -> Result<bool, NoMemory> {
-        let Some(generic) = self.teller.known.scope.const_type(name) else {
-            return self.unknown_constant(message, at, name);
-        };
+    ) {
         let parts = [
             Text("the constant "),
             Quoted(name),
             Text(" has the generic type "),
             Type(generic),
         ];
-        let said = self.teller.say(message, at, &parts)?;
-        self.push_no_instance(message, types)?;
-        Ok(said)
+        self.teller.say(message, at, &parts);
+        self.push_no_instance(message, types);
+    }
+
+    // Says that a constant is not known, or stands at a type that is no instance of its own.
+    fn at_constant(&self, message: &mut Message, at: usize, name: &'a str, types: &[TypeStep<'_>]) {
+        match self.teller.known.scope.const_type(name) {
+            Some(generic) => self.no_instance(message, at, name, generic, types),
+            None => self.unknown_constant(message, at, name),
+        }
     }
 
     // Says that a function does not fit its argument.
-    fn misapplied(&self, message: &mut Message, operands: Operands<'_>) -> Result<bool, NoMemory> {
+    fn misapplied(&self, message: &mut Message, operands: Operands<'_>) {
         let lead = if operands.first.ty().dest_fun().is_some() {
             "the function "
         } else {
@@ -238,7 +195,7 @@ impl<'a> Quote<'a> {
             Text(", and its argument "),
             Typed(operands.second),
         ];
-        self.teller.say(message, operands.right, &parts)
+        self.teller.say(message, operands.right, &parts);
     }
 
     // Says that an operand is no formula.
@@ -248,33 +205,28 @@ impl<'a> Quote<'a> {
         at: usize,
         operator: &'b str,
         operand: &'b Term,
-    ) -> Result<bool, NoMemory> {
+    ) {
         let parts = [
             Quoted(operator),
             Text(" wants formulas, of type `bool`, and "),
             Typed(operand),
         ];
-        self.teller.say(message, at, &parts)
+        self.teller.say(message, at, &parts);
     }
 
     // Says that the sides of an equation have two types.
-    fn unequal(&self, message: &mut Message, operands: Operands<'_>) -> Result<bool, NoMemory> {
+    fn unequal(&self, message: &mut Message, operands: Operands<'_>) {
         let parts = [
             Text("the sides of `=` have one type, but the left side "),
             Typed(operands.first),
             Text(", and the right side "),
             Typed(operands.second),
         ];
-        self.teller.say(message, operands.right, &parts)
+        self.teller.say(message, operands.right, &parts);
     }
 
     // Says that an infix, or application where there is none, does not fit its operands.
-    fn misjoined(
-        &self,
-        message: &mut Message,
-        operation: Option<Infix>,
-        operands: Operands<'_>,
-    ) -> Result<bool, NoMemory> {
+    fn misjoined(&self, message: &mut Message, operation: Option<Infix>, operands: Operands<'_>) {
         match operation {
             None => self.misapplied(message, operands),
             Some(Infix::Equal) => self.unequal(message, operands),
@@ -284,7 +236,7 @@ impl<'a> Quote<'a> {
                 } else {
                     (operands.left, operands.first)
                 };
-                self.no_formula(message, at, infix_sign(operation), operand)
+                self.no_formula(message, at, infix_sign(operation), operand);
             }
         }
     }
@@ -296,88 +248,72 @@ impl<'a> Quote<'a> {
         operation: Option<Infix>,
         second: &Term,
         begin: usize,
-    ) -> Result<bool, NoMemory> {
-        let Some(first) = self.last_term(begin)? else {
-            return Ok(false);
-        };
-        let operands = Operands {
-            first: &first,
-            second,
-            left: self.place(begin_of_last(self.steps, begin)),
-            right: self.place(begin),
-        };
-        self.misjoined(message, operation, operands)
+    ) {
+        if let Some(first) = self.last_term(message, begin) {
+            let operands = Operands {
+                first: &first,
+                second,
+                left: self.place(begin_of_last(self.steps, begin)),
+                right: self.place(begin),
+            };
+            self.misjoined(message, operation, operands);
+        }
     }
 
     // Says what is wrong with an infix, or an application where there is none, that is refused behind so many other steps.
-    fn at_operands(
-        &self,
-        message: &mut Message,
-        before: usize,
-        operation: Option<Infix>,
-    ) -> Result<bool, NoMemory> {
-        match self.last_term(before)? {
-            Some(second) => {
-                let begin = begin_of_last(self.steps, before);
-                self.at_second(message, operation, &second, begin)
-            }
-            None => Ok(false),
+    fn at_operands(&self, message: &mut Message, before: usize, operation: Option<Infix>) {
+        if let Some(second) = self.last_term(message, before) {
+            let begin = begin_of_last(self.steps, before);
+            self.at_second(message, operation, &second, begin);
         }
     }
 
     // Says what is wrong with the operand of `~`, or the body of a binder.
-    fn at_body(
-        &self,
-        message: &mut Message,
-        before: usize,
-        operator: &str,
-    ) -> Result<bool, NoMemory> {
+    fn at_body(&self, message: &mut Message, before: usize, operator: &str) {
         let at = self.place(begin_of_last(self.steps, before));
-        match self.last_term(before)? {
-            Some(body) => self.no_formula(message, at, operator, &body),
-            None => Ok(false),
+        if let Some(body) = self.last_term(message, before) {
+            self.no_formula(message, at, operator, &body);
         }
     }
 
     // Says what is wrong with a step that is refused behind so many others.
-    fn at_step(&self, message: &mut Message, before: usize) -> Result<bool, NoMemory> {
+    fn at_step(&self, message: &mut Message, before: usize) {
         let here = self.place(before);
         match self.steps.get(before) {
             Some(TermStep::Bare(name)) => self.at_bare(message, here, text_of(name)),
             Some(TermStep::Constant(name, types)) => {
-                self.at_constant(message, here, text_of(name), types)
+                self.at_constant(message, here, text_of(name), types);
             }
             Some(TermStep::Apply) => self.at_operands(message, before, None),
-            Some(TermStep::Join(operation)) => {
-                self.at_operands(message, before, Some(*operation))
-            }
+            Some(TermStep::Join(operation)) => self.at_operands(message, before, Some(*operation)),
             Some(TermStep::Not) => self.at_body(message, before, "~"),
             Some(TermStep::Leave(binder)) => self.at_body(message, before, binder_sign(*binder)),
-            _ => Ok(false),
+            _ => {}
         }
     }
 
     // Says what is wrong with the text, where it is refused so.
-    fn said(&self, message: &mut Message, fault: &Fault) -> Result<bool, NoMemory> {
+    fn say(&self, message: &mut Message, fault: &Fault) {
         let scope = &self.teller.known.scope;
         let alloc = self.teller.alloc;
         if !is_refused(alloc, scope, self.steps, fault) {
-            return Ok(false);
+            return;
         }
         if *fault == Fault::UnknownType {
-            return unknown_type(self.teller, message, self.piece, 0, false);
+            unknown_type(self.teller, message, self.piece, 0, false);
+        } else {
+            let front = refused_front(alloc, scope, self.steps, fault);
+            self.at_step(message, front.saturating_sub(1));
         }
-        let front = refused_front(alloc, scope, self.steps, fault);
-        self.at_step(message, front.saturating_sub(1))
     }
 }
 
-// What an answer of the reader is, where there is one, and that there was no memory.
-fn answered<T: Drop>(answer: Result<T, ReadError>) -> Result<Option<T>, NoMemory> {
+// What the reader answers, by the fault of the command.
+fn read<T: Drop>(answer: Result<T, ReadError>) -> Result<T, Fault> {
     match answer {
-        Ok(value) => Ok(Some(value)),
-        Err(ReadError::Memory) => Err(NoMemory),
-        Err(ReadError::Syntax) => Ok(None),
+        Ok(value) => Ok(value),
+        Err(ReadError::Memory) => Err(Fault::Memory),
+        Err(ReadError::Syntax) => Err(Fault::Syntax),
     }
 }
 
@@ -388,17 +324,14 @@ fn in_tokens<'a>(
     piece: &'a Piece<'a>,
     tokens: &[Token<'a>],
     fault: &Fault,
-) -> Result<bool, NoMemory> {
-    match answered(parse_term(teller.alloc, tokens))? {
-        Some(steps) => {
-            let quote = Quote {
-                teller,
-                piece,
-                steps: &steps,
-            };
-            quote.said(message, fault)
-        }
-        None => Ok(false),
+) {
+    if let Some(steps) = message.given(read(parse_term(teller.alloc, tokens))) {
+        let quote = Quote {
+            teller,
+            piece,
+            steps: &steps,
+        };
+        quote.say(message, fault);
     }
 }
 
@@ -408,9 +341,8 @@ pub(crate) fn in_quote<'a>(
     message: &mut Message,
     piece: &'a Piece<'a>,
     fault: &Fault,
-) -> Result<bool, NoMemory> {
-    match answered(tokens_in(teller.alloc, piece.bytes))? {
-        Some(tokens) => in_tokens(teller, message, piece, &tokens, fault),
-        None => Ok(false),
+) {
+    if let Some(tokens) = message.given(read(tokens_in(teller.alloc, piece.bytes))) {
+        in_tokens(teller, message, piece, &tokens, fault);
     }
 }

@@ -5,37 +5,36 @@ use crate::names::{at_new_name, in_names, unknown_type};
 use crate::quoted::in_quote;
 use crate::rules::{at_definition, at_rule};
 use crate::said::Said::Text;
-use hol_explain_words::{Kind, Message, NoMemory, Piece, sentence};
+use hol_explain_words::{Kind, Message, Piece, sentence};
 use hol_model::Fault;
 
 // Says what is at fault in a text that stands between backquotes.
-fn in_text(case: &Case<'_>, message: &mut Message, inside: &Piece<'_>) -> Result<bool, NoMemory> {
+fn in_text(case: &Case<'_>, message: &mut Message, inside: &Piece<'_>) {
     if case.rule() == "INST_TYPE" {
-        unknown_type(case.teller(), message, inside, 0, true)
+        unknown_type(case.teller(), message, inside, 0, true);
     } else {
-        in_quote(case.teller(), message, inside, case.fault)
+        in_quote(case.teller(), message, inside, case.fault);
     }
 }
 
 // The same of the text between backquotes at a place in the list.
-fn at_quote(case: &Case<'_>, message: &mut Message, at: usize) -> Result<bool, NoMemory> {
-    let inside = Piece::of_quote(case.alloc, case.piece.quoted(at))?;
-    in_text(case, message, &inside)
+fn at_quote(case: &Case<'_>, message: &mut Message, at: usize) {
+    if let Some(inside) = message.made(Piece::of_quote(case.alloc, case.piece.quoted(at))) {
+        in_text(case, message, &inside);
+    }
 }
 
 // Says what is at fault in the first quoted text that is refused so.
-fn in_quotes(case: &Case<'_>, message: &mut Message) -> Result<bool, NoMemory> {
+fn in_quotes(case: &Case<'_>, message: &mut Message) {
     for at in 0..case.piece.words.len() {
-        if case.piece.kind(at) != Kind::Quote {
-            continue;
-        }
-        if at_quote(case, message, at)? {
-            let start = case.piece.start(at).saturating_add(1);
-            message.at = start.saturating_add(message.at);
-            return Ok(true);
+        if case.piece.kind(at) == Kind::Quote {
+            at_quote(case, message, at);
+            if !message.is_empty() {
+                message.enter_quote(case.piece.start(at));
+                return;
+            }
         }
     }
-    Ok(false)
 }
 
 // What is said behind a row of values in which a quantified formula has one.
@@ -43,24 +42,21 @@ const QUANTIFIED: &str =
     "; a formula under `!` or `?` counts as one letter here, and what it says of its instances does not: take it apart by `SPEC` or `EXISTS`";
 
 // Says the row of values that makes a formula false.
-fn at_row(case: &Case<'_>, message: &mut Message) -> Result<bool, NoMemory> {
+fn at_row(case: &Case<'_>, message: &mut Message) {
     let Some(row) = case.row else {
-        return Ok(false);
+        return;
     };
     let behind = if row.contains('!') || row.contains('?') {
         QUANTIFIED
     } else {
         ""
     };
-    case.say(
-        message,
-        4,
-        &[Text("the formula is false where"), Text(row), Text(behind)],
-    )
+    let parts = [Text("the formula is false where"), Text(row), Text(behind)];
+    case.say(message, 4, &parts);
 }
 
 // Says what the names of a command tell of its refusal.
-fn in_words(case: &Case<'_>, message: &mut Message) -> Result<bool, NoMemory> {
+fn in_words(case: &Case<'_>, message: &mut Message) {
     match case.fault {
         Fault::UnknownName => in_names(case, message),
         Fault::UnknownType => unknown_type(case.teller(), message, case.piece, 3, true),
@@ -70,36 +66,36 @@ fn in_words(case: &Case<'_>, message: &mut Message) -> Result<bool, NoMemory> {
 }
 
 // Says what the terms and the theorems of a command tell of its refusal.
-fn in_arguments(case: &Case<'_>, message: &mut Message) -> Result<bool, NoMemory> {
+fn in_arguments(case: &Case<'_>, message: &mut Message) {
     match case.piece.text(0) {
         "thm" => at_rule(case, message),
         "def" => at_definition(case, message),
         "goal" => at_new_goal(case, message),
-        _ => Ok(false),
+        _ => {}
     }
 }
 
-/// Says what the words, the terms and the theorems of a refused command tell; whether they do.
-pub fn of_case(case: &Case<'_>, message: &mut Message) -> Result<bool, NoMemory> {
-    if in_quotes(case, message)? {
-        return Ok(true);
+/// Says what the words, the terms and the theorems of a refused command tell, where they do.
+pub fn of_case(case: &Case<'_>, message: &mut Message) {
+    in_quotes(case, message);
+    if message.is_empty() {
+        in_words(case, message);
     }
-    if in_words(case, message)? {
-        return Ok(true);
+    if message.is_empty() {
+        in_arguments(case, message);
     }
-    in_arguments(case, message)
 }
 
 // What is said of a `b` behind which steps stand that are not kept.
 const FORGOTTEN: &str = "only the last 256 steps are kept, and all of these are taken back";
 
 /// Says the sentence of a refused command of which no more is known.
-pub fn plain(case: &Case<'_>, message: &mut Message) -> Result<bool, NoMemory> {
+pub fn plain(case: &Case<'_>, message: &mut Message) {
     let at = if case.piece.text(0) == "thm" { 3 } else { 0 };
     let said = if *case.fault == Fault::NothingToUndo && case.known.proof.steps > 0 {
         FORGOTTEN
     } else {
         sentence(case.fault)
     };
-    case.say(message, at, &[Text(said)])
+    case.say(message, at, &[Text(said)]);
 }

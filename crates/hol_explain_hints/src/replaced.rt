@@ -2,7 +2,7 @@
 use crate::arguments::Premise;
 use crate::notes::Accepted;
 use crate::said::Said::{Quoted, Text, Type};
-use hol_explain_words::{Kind, Message, NoMemory, Piece, given};
+use hol_explain_words::{Kind, Message, Piece};
 use hol_syntax::read_type;
 use hol_terms::{Term, type_vars};
 use hol_types::Ty;
@@ -19,33 +19,33 @@ fn is_one_of(types: &[Ty], ty: &Ty) -> bool {
 }
 
 // Whether a term has a type variable.
-fn has(alloc: Global, term: &Term, variable: &Ty) -> Result<bool, NoMemory> {
-    match given(type_vars(alloc, term))? {
-        Some(variables) => Ok(is_one_of(&variables, variable)),
-        None => Ok(false),
+fn has(alloc: Global, term: &Term, variable: &Ty, notes: &mut Message) -> bool {
+    match notes.given(type_vars(alloc, term)) {
+        Some(variables) => is_one_of(&variables, variable),
+        None => false,
     }
 }
 
 // Whether a theorem has a type variable.
-fn occurs(alloc: Global, premise: &Premise, variable: &Ty) -> Result<bool, NoMemory> {
+fn occurs(alloc: Global, premise: &Premise, variable: &Ty, notes: &mut Message) -> bool {
     for hypothesis in &premise.hypotheses {
-        if has(alloc, hypothesis, variable)? {
-            return Ok(true);
+        if has(alloc, hypothesis, variable, notes) {
+            return true;
         }
     }
-    has(alloc, &premise.conclusion, variable)
+    has(alloc, &premise.conclusion, variable, notes)
 }
 
 // Says that the type variable at a place in the list is none of a theorem, where it is none.
 fn push_absent<'b>(
     of: &Accepted<'_>,
-    notes: &mut Vec<Message>,
+    notes: &mut Message,
     at: usize,
     variable: &'b Ty,
     premise: &'b Premise,
-) -> Result<(), NoMemory> {
-    if occurs(of.alloc, premise, variable)? {
-        return Ok(());
+) {
+    if occurs(of.alloc, premise, variable, notes) {
+        return;
     }
     let parts = [
         Text("nothing is put for "),
@@ -53,19 +53,14 @@ fn push_absent<'b>(
         Text(", which is no type variable of "),
         Quoted(premise.name()),
     ];
-    of.push(notes, of.piece.start(at), &parts)
+    of.push(notes, of.piece.start(at), &parts);
 }
 
 // The same of the type variable that the word at a place in the list quotes.
-fn push_quoted(
-    of: &Accepted<'_>,
-    notes: &mut Vec<Message>,
-    at: usize,
-    premise: &Premise,
-) -> Result<(), NoMemory> {
-    match given(read_type(of.alloc, &of.known.scope, of.piece.quoted(at)))? {
-        Some(variable) => push_absent(of, notes, at, &variable, premise),
-        None => Ok(()),
+fn push_quoted(of: &Accepted<'_>, notes: &mut Message, at: usize, premise: &Premise) {
+    let read = read_type(of.alloc, &of.known.scope, of.piece.quoted(at));
+    if let Some(variable) = notes.given(read) {
+        push_absent(of, notes, at, &variable, premise);
     }
 }
 
@@ -75,14 +70,13 @@ fn is_replaced(piece: &Piece<'_>, at: usize) -> bool {
 }
 
 /// Says which type variables of `INST_TYPE` its theorem does not have.
-pub(crate) fn push_types(of: &Accepted<'_>, notes: &mut Vec<Message>) -> Result<(), NoMemory> {
+pub(crate) fn push_types(of: &Accepted<'_>, notes: &mut Message) {
     let Some(Some(premise)) = of.arguments.theorems.first() else {
-        return Ok(());
+        return;
     };
     for at in 0..of.piece.words.len() {
         if is_replaced(of.piece, at) {
-            push_quoted(of, notes, at, premise)?;
+            push_quoted(of, notes, at, premise);
         }
     }
-    Ok(())
 }

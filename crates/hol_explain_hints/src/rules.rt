@@ -9,7 +9,7 @@ use crate::said::Said::{Quoted, Shown, Text, Theorem, Type, Typed};
 use crate::shapes::wanted;
 use crate::unlike::not_alpha;
 use hol_alpha::aconv;
-use hol_explain_words::{Message, NoMemory, given, sentence};
+use hol_explain_words::{Message, sentence};
 use hol_model::Fault;
 use hol_terms::{Parts, Term, free_in, frees, type_vars};
 use hol_types::Ty;
@@ -26,10 +26,10 @@ fn first_given<'a>(case: &Case<'a>) -> Option<(usize, Said<'a>, &'static str)> {
 }
 
 // Says what the rule wants, and what it was given.
-fn bad_shape(case: &Case<'_>, message: &mut Message) -> Result<bool, NoMemory> {
+fn bad_shape(case: &Case<'_>, message: &mut Message) {
     let rule = case.rule();
     let (Some(wanted), Some((at, found, end))) = (wanted(rule), first_given(case)) else {
-        return Ok(false);
+        return;
     };
     let parts = [
         Quoted(rule),
@@ -39,7 +39,7 @@ fn bad_shape(case: &Case<'_>, message: &mut Message) -> Result<bool, NoMemory> {
         found,
         Text(end),
     ];
-    case.say(message, at, &parts)
+    case.say(message, at, &parts);
 }
 
 // The first theorem that is no equation.
@@ -55,16 +55,16 @@ fn first_no_equation<'a>(case: &Case<'a>) -> Option<&'a Premise> {
 }
 
 // Says which theorem is no equation.
-fn no_equation(case: &Case<'_>, message: &mut Message) -> Result<bool, NoMemory> {
+fn no_equation(case: &Case<'_>, message: &mut Message) {
     let Some(found) = first_no_equation(case) else {
-        return Ok(false);
+        return;
     };
     let parts = [
         Quoted(case.rule()),
         Text(" wants an equation here, and "),
         Theorem(found),
     ];
-    case.say(message, found.at, &parts)
+    case.say(message, found.at, &parts);
 }
 
 // What a term is.
@@ -99,9 +99,9 @@ fn first_wrong<'a>(case: &Case<'a>) -> Option<&'a Quotation> {
 }
 
 // Says which quoted term is no variable, or no formula.
-fn at_term(case: &Case<'_>, message: &mut Message) -> Result<bool, NoMemory> {
+fn at_term(case: &Case<'_>, message: &mut Message) {
     let Some(found) = first_wrong(case) else {
-        return Ok(false);
+        return;
     };
     let term = &found.term;
     let (shown, kind) = if *case.fault == Fault::NotVariable {
@@ -115,7 +115,7 @@ fn at_term(case: &Case<'_>, message: &mut Message) -> Result<bool, NoMemory> {
         shown,
         Text(kind),
     ];
-    case.say(message, found.at, &parts)
+    case.say(message, found.at, &parts);
 }
 
 // The first hypothesis in which a variable is free, but for one.
@@ -137,12 +137,12 @@ fn hypothesis_with<'a>(
 }
 
 // What `CHOOSE` takes out of the hypotheses of its last theorem: the body of the first one's conclusion at the variable.
-fn chosen(case: &Case<'_>, variable: &Term) -> Result<Option<Term>, NoMemory> {
+fn chosen(case: &Case<'_>, message: &mut Message, variable: &Term) -> Option<Term> {
     match case.theorem(0) {
         Some(premise) if case.rule() == "CHOOSE" => {
-            body_at(case.alloc, &premise.conclusion, variable)
+            body_at(case.alloc, &premise.conclusion, variable, message)
         }
-        _ => Ok(None),
+        _ => None,
     }
 }
 
@@ -152,14 +152,14 @@ fn free_in_conclusion<'a>(
     message: &mut Message,
     variable: &'a Quotation,
     premise: &'a Premise,
-) -> Result<bool, NoMemory> {
+) {
     let parts = [
         Text("the variable "),
         Shown(&variable.term),
         Text(" is free in the conclusion of "),
         Quoted(premise.name()),
     ];
-    case.say(message, variable.at, &parts)
+    case.say(message, variable.at, &parts);
 }
 
 // Says the first hypothesis of a theorem in which a variable is free, but for one, or else that it is free in a conclusion.
@@ -169,10 +169,11 @@ fn free_in_one<'a>(
     variable: &'a Quotation,
     premises: (&'a Premise, &'a Premise),
     but: &Option<Term>,
-) -> Result<bool, NoMemory> {
+) {
     let (first, last) = premises;
     let Some(hypothesis) = hypothesis_with(last, &variable.term, but) else {
-        return free_in_conclusion(case, message, variable, first);
+        free_in_conclusion(case, message, variable, first);
+        return;
     };
     let parts = [
         Text("the variable "),
@@ -182,35 +183,31 @@ fn free_in_one<'a>(
         Text(" of "),
         Quoted(last.name()),
     ];
-    case.say(message, variable.at, &parts)
+    case.say(message, variable.at, &parts);
 }
 
 // Says where the variable is free: in a hypothesis of the last theorem, or in the conclusion.
-fn free_in_hypothesis(case: &Case<'_>, message: &mut Message) -> Result<bool, NoMemory> {
+fn free_in_hypothesis(case: &Case<'_>, message: &mut Message) {
     let last = case.arguments.theorems.len().saturating_sub(1);
     let (Some(variable), Some(first), Some(premise)) = (
         case.term(0),
         case.theorem(0),
         case.theorem(last),
     ) else {
-        return Ok(false);
+        return;
     };
     if free_in(&variable.term, &premise.conclusion) && case.rule() == "CHOOSE" {
-        return free_in_conclusion(case, message, variable, premise);
+        free_in_conclusion(case, message, variable, premise);
+    } else {
+        let chosen = chosen(case, message, &variable.term);
+        free_in_one(case, message, variable, (first, premise), &chosen);
     }
-    let chosen = chosen(case, &variable.term)?;
-    free_in_one(case, message, variable, (first, premise), &chosen)
 }
 
 // Says the first of the variables that are free in the term of a definition.
-fn not_closed_by(
-    case: &Case<'_>,
-    message: &mut Message,
-    at: usize,
-    variables: &[Term],
-) -> Result<bool, NoMemory> {
+fn not_closed_by(case: &Case<'_>, message: &mut Message, at: usize, variables: &[Term]) {
     let Some(variable) = variables.first() else {
-        return Ok(false);
+        return;
     };
     let parts = [
         Text(sentence(case.fault)),
@@ -218,94 +215,78 @@ fn not_closed_by(
         Shown(variable),
         Text(" is free in it"),
     ];
-    case.say(message, at, &parts)
+    case.say(message, at, &parts);
 }
 
 // Says the first variable that is free in the term of a definition.
-fn not_closed(case: &Case<'_>, message: &mut Message, found: &Quotation) -> Result<bool, NoMemory> {
-    match given(frees(case.alloc, &found.term))? {
-        Some(variables) => not_closed_by(case, message, found.at, &variables),
-        None => Ok(false),
+fn not_closed(case: &Case<'_>, message: &mut Message, found: &Quotation) {
+    if let Some(variables) = message.given(frees(case.alloc, &found.term)) {
+        not_closed_by(case, message, found.at, &variables);
     }
 }
 
 // Says the type of the term of a definition, and type variables in its body.
-fn not_reflected_in(
-    case: &Case<'_>,
-    message: &mut Message,
-    found: &Quotation,
-    variables: &[Ty],
-) -> Result<bool, NoMemory> {
+fn not_reflected_in(case: &Case<'_>, message: &mut Message, found: &Quotation, variables: &[Ty]) {
     let lead = [
         Text(sentence(case.fault)),
         Text(": the type is "),
         Type(found.term.ty()),
         Text(", and in the body stand"),
     ];
-    let said = case.say(message, found.at, &lead)?;
+    case.say(message, found.at, &lead);
     for variable in variables {
-        case.push(message, &[Text(" "), Type(variable)])?;
+        case.push(message, &[Text(" "), Type(variable)]);
     }
-    Ok(said)
 }
 
 // Says the type of the term of a definition, and the type variables in its body.
-fn not_reflected(
-    case: &Case<'_>,
-    message: &mut Message,
-    found: &Quotation,
-) -> Result<bool, NoMemory> {
-    match given(type_vars(case.alloc, &found.term))? {
-        Some(variables) => not_reflected_in(case, message, found, &variables),
-        None => Ok(false),
+fn not_reflected(case: &Case<'_>, message: &mut Message, found: &Quotation) {
+    if let Some(variables) = message.given(type_vars(case.alloc, &found.term)) {
+        not_reflected_in(case, message, found, &variables);
     }
 }
 
 /// Says what is wrong with a refused definition.
-pub(crate) fn at_definition(case: &Case<'_>, message: &mut Message) -> Result<bool, NoMemory> {
+pub(crate) fn at_definition(case: &Case<'_>, message: &mut Message) {
     match (case.fault, case.term(0)) {
         (Fault::NotClosed, Some(found)) => not_closed(case, message, found),
         (Fault::TypeVarsNotReflected, Some(found)) => not_reflected(case, message, found),
-        _ => Ok(false),
+        _ => {}
     }
 }
 
 // Says the conversion that does not apply, and the term that it is applied to.
-fn at_conversion(case: &Case<'_>, message: &mut Message) -> Result<bool, NoMemory> {
-    let Some(found) = case.term(0) else {
-        return Ok(false);
-    };
-    let said = case.say(message, 4, &[Text(sentence(case.fault))])?;
-    push_conversion(case, 4, &found.term, message)?;
-    Ok(said)
+fn at_conversion(case: &Case<'_>, message: &mut Message) {
+    if let Some(found) = case.term(0) {
+        case.say(message, 4, &[Text(sentence(case.fault))]);
+        push_conversion(case, 4, &found.term, message);
+    }
 }
 
 // Says the term that a rule was given, behind the sentence of the refusal.
-fn at_quoted_term(case: &Case<'_>, message: &mut Message) -> Result<bool, NoMemory> {
+fn at_quoted_term(case: &Case<'_>, message: &mut Message) {
     let Some(found) = case.term(0) else {
-        return Ok(false);
+        return;
     };
     let parts = [
         Text(sentence(case.fault)),
         Text(", and the term is "),
         Shown(&found.term),
     ];
-    case.say(message, found.at, &parts)
+    case.say(message, found.at, &parts);
 }
 
 /// Says what is wrong with a refused rule, where something is known.
-pub(crate) fn at_rule(case: &Case<'_>, message: &mut Message) -> Result<bool, NoMemory> {
-    if case.rule() == "CONV" {
-        return at_conversion(case, message);
-    }
-    match case.fault {
-        Fault::BadShape => bad_shape(case, message),
-        Fault::NotEquation => no_equation(case, message),
-        Fault::NotAlpha => not_alpha(case, message),
-        Fault::FreeInHypothesis => free_in_hypothesis(case, message),
-        Fault::TypeMismatch => mistyped(case, message),
-        Fault::NotVariable | Fault::NotBool => at_term(case, message),
-        Fault::NotTrivialBeta | Fault::TooManyAtoms => at_quoted_term(case, message),
-        _ => Ok(false),
+pub(crate) fn at_rule(case: &Case<'_>, message: &mut Message) {
+    match (case.rule(), case.fault) {
+        ("CONV", _) => at_conversion(case, message),
+        (_, Fault::BadShape) => bad_shape(case, message),
+        (_, Fault::NotEquation) => no_equation(case, message),
+        (_, Fault::NotAlpha) => not_alpha(case, message),
+        (_, Fault::FreeInHypothesis) => free_in_hypothesis(case, message),
+        (_, Fault::TypeMismatch) => mistyped(case, message),
+        (_, Fault::NotVariable | Fault::NotBool) => at_term(case, message),
+        (_, Fault::NotTrivialBeta | Fault::TooManyAtoms) => at_quoted_term(case, message),
+        _ => {}
     }
 }

@@ -2,7 +2,8 @@
 use crate::arguments::Premise;
 use crate::parts::bound_variable;
 use crate::seen::type_in;
-use hol_explain_words::{Known, Message, NoMemory, Piece, between, given, text_of};
+use hol_explain_words::{Known, Message, Piece, between, text_of};
+use hol_model::Fault;
 use hol_syntax::read_type;
 use hol_syntax_print::{text_of_term, text_of_type};
 use hol_terms::Term;
@@ -31,19 +32,20 @@ pub(crate) enum Said<'a> {
 // The longest text that is shown of a term or a type.
 const SHOWN: usize = 400;
 
-fn push_text(out: &mut String, text: &str) -> Result<(), NoMemory> {
-    out.push_str(text)?;
-    Ok(())
-}
-
-fn push_quoted(out: &mut String, text: &str) -> Result<(), NoMemory> {
+fn push_quoted(message: &mut Message, text: &str) {
     let (shown, end) = if text.len() <= SHOWN {
         (text, "`")
     } else {
         (text_of(between(text.as_bytes(), 0, SHOWN)), " ..`")
     };
-    write!(out, "`{shown}{end}")?;
-    Ok(())
+    message.push_texts(&["`", shown, end]);
+}
+
+// Puts the text of a term or a type at the end, where it has one.
+fn push_shown(message: &mut Message, text: Result<String, Fault>) {
+    if let Some(text) = message.given(text) {
+        push_quoted(message, text.as_str());
+    }
 }
 
 /// Who tells: what names stand for, what the first open goal is, and where texts are made.
@@ -55,114 +57,92 @@ pub(crate) struct Teller<'a> {
 }
 
 impl Teller<'_> {
-    fn push_term(&self, out: &mut String, term: &Term) -> Result<(), NoMemory> {
-        match given(text_of_term(self.alloc, &self.known.scope, term))? {
-            Some(text) => push_quoted(out, text.as_str()),
-            None => Ok(()),
+    fn text_of(&self, term: &Term) -> Result<String, Fault> {
+        text_of_term(self.alloc, &self.known.scope, term)
+    }
+
+    fn push_bare(&self, message: &mut Message, term: &Term) {
+        if let Some(text) = message.given(self.text_of(term)) {
+            message.push_str(text.as_str());
         }
     }
 
-    fn push_bare(&self, out: &mut String, term: &Term) -> Result<(), NoMemory> {
-        match given(text_of_term(self.alloc, &self.known.scope, term))? {
-            Some(text) => push_text(out, text.as_str()),
-            None => Ok(()),
-        }
+    fn push_type(&self, message: &mut Message, ty: &Ty) {
+        push_shown(message, text_of_type(self.alloc, ty));
     }
 
-    fn push_type(&self, out: &mut String, ty: &Ty) -> Result<(), NoMemory> {
-        match given(text_of_type(self.alloc, ty))? {
-            Some(text) => push_quoted(out, text.as_str()),
-            None => Ok(()),
-        }
-    }
-
-    fn push_typed(&self, out: &mut String, term: &Term) -> Result<(), NoMemory> {
-        self.push_term(out, term)?;
-        push_text(out, " has the type ")?;
-        self.push_type(out, term.ty())?;
-        self.push_other(out, term)
+    fn push_typed(&self, message: &mut Message, term: &Term) {
+        push_shown(message, self.text_of(term));
+        message.push_str(" has the type ");
+        self.push_type(message, term.ty());
+        self.push_other(message, term);
     }
 
     // Whether a text is that of another type.
-    fn is_of_another(&self, text: &str, ty: &Ty) -> Result<bool, NoMemory> {
-        match given(read_type(self.alloc, &self.known.scope, text.as_bytes()))? {
-            Some(found) => Ok(!found.eq(ty)),
-            None => Ok(false),
+    fn is_of_another(&self, message: &mut Message, text: &str, ty: &Ty) -> bool {
+        match message.given(read_type(self.alloc, &self.known.scope, text.as_bytes())) {
+            Some(found) => !found.eq(ty),
+            None => false,
         }
     }
 
     // Puts the goal's variable of the same name at the end, where that has another type.
-    fn push_other(&self, out: &mut String, term: &Term) -> Result<(), NoMemory> {
+    fn push_other(&self, message: &mut Message, term: &Term) {
         let Some((name, ty)) = term.dest_var() else {
-            return Ok(());
+            return;
         };
         let Some(text) = type_in(self.goal, name) else {
-            return Ok(());
+            return;
         };
-        if self.is_of_another(text, ty)? {
-            write!(out, " (the goal has `({name}:{text})`)")?;
+        if self.is_of_another(message, text, ty) {
+            message.push_texts(&[" (the goal has `(", name, ":", text, ")`)"]);
         }
-        Ok(())
     }
 
-    fn push_part(&self, out: &mut String, part: Said<'_>) -> Result<(), NoMemory> {
+    fn push_part(&self, message: &mut Message, part: Said<'_>) {
         match part {
-            Said::Text(text) => push_text(out, text),
-            Said::Quoted(text) => push_quoted(out, text),
-            Said::Bare(term) => self.push_bare(out, term),
-            Said::Shown(term) => self.push_term(out, term),
-            Said::Type(ty) => self.push_type(out, ty),
-            Said::Typed(term) => self.push_typed(out, term),
+            Said::Text(text) => message.push_str(text),
+            Said::Quoted(text) => push_quoted(message, text),
+            Said::Bare(term) => self.push_bare(message, term),
+            Said::Shown(term) => push_shown(message, self.text_of(term)),
+            Said::Type(ty) => self.push_type(message, ty),
+            Said::Typed(term) => self.push_typed(message, term),
             Said::Theorem(theorem) => {
-                push_quoted(out, theorem.name())?;
-                push_text(out, " is ")?;
-                push_quoted(out, theorem.text())
+                push_quoted(message, theorem.name());
+                message.push_str(" is ");
+                push_quoted(message, theorem.text());
             }
         }
     }
 
     /// Puts parts at the end.
-    pub(crate) fn push(&self, out: &mut String, parts: &[Said<'_>]) -> Result<(), NoMemory> {
+    pub(crate) fn push(&self, message: &mut Message, parts: &[Said<'_>]) {
         for at in 0..parts.len() {
-            self.push_part(out, parts[at])?;
+            self.push_part(message, parts[at]);
         }
-        Ok(())
-    }
-
-    /// Puts the types at the end of the variable that a formula binds, and of a term that is to stand for it.
-    pub(crate) fn push_misfit<'b>(
-        &self,
-        out: &mut String,
-        formula: &'b Term,
-        term: &'b Term,
-    ) -> Result<(), NoMemory> {
-        let Some((name, ty)) = bound_variable(formula) else {
-            return Ok(());
-        };
-        self.push(
-            out,
-            &[
-                Said::Text(": the bound variable "),
-                Said::Quoted(name),
-                Said::Text(" of "),
-                Said::Shown(formula),
-                Said::Text(" has the type "),
-                Said::Type(ty),
-                Said::Text(", and "),
-                Said::Typed(term),
-            ],
-        )
     }
 
     /// Says parts on what stands at an offset.
-    pub(crate) fn say(
-        &self,
-        message: &mut Message,
-        at: usize,
-        parts: &[Said<'_>],
-    ) -> Result<bool, NoMemory> {
+    pub(crate) fn say(&self, message: &mut Message, at: usize, parts: &[Said<'_>]) {
         message.at = at;
-        self.push(&mut message.text, parts)?;
-        Ok(true)
+        self.push(message, parts);
+    }
+
+    /// Puts the types at the end of the variable that a formula binds, and of a term that is to stand for it.
+    pub(crate) fn push_misfit<'b>(&self, message: &mut Message, formula: &'b Term, term: &'b Term) {
+        let Some((name, ty)) = bound_variable(formula) else {
+            return;
+        };
+        let parts = [
+            Said::Text(": the bound variable "),
+            Said::Quoted(name),
+            Said::Text(" of "),
+            Said::Shown(formula),
+            Said::Text(" has the type "),
+            Said::Type(ty),
+            Said::Text(", and "),
+            Said::Typed(term),
+        ];
+        self.push(message, &parts);
     }
 }

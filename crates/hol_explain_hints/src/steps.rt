@@ -1,10 +1,8 @@
 // The steps of a quoted term.
-use hol_explain_words::{NoMemory, given};
 use hol_model::Fault;
 use hol_syntax::{Scope, term_of_steps};
 use hol_syntax_grammar::TermStep;
 use hol_syntax_grammar::grammar::{Binder, Infix};
-use hol_terms::Term;
 use std::alloc::Global;
 
 /// Whether the steps are refused so.
@@ -44,19 +42,6 @@ pub(crate) fn refused_front(
         }
     }
     refused
-}
-
-/// The last term that the first steps make, so many.
-pub(crate) fn last_term(
-    alloc: Global,
-    scope: &Scope,
-    steps: &[TermStep<'_>],
-    count: usize,
-) -> Result<Option<Term>, NoMemory> {
-    match steps.get(..count) {
-        Some(front) => given(term_of_steps(alloc, scope, front)),
-        None => Ok(None),
-    }
 }
 
 // How many terms are wanted and how many scopes are open, from the back.

@@ -4,21 +4,16 @@ use crate::case::Case;
 use crate::said::Said::{Quoted, Shown, Text, Theorem};
 use crate::span::Span;
 use hol_alpha::aconv;
-use hol_explain_words::{Message, NoMemory, is_before_theorem};
+use hol_explain_words::{Message, is_before_theorem};
 use hol_terms::Term;
 
 /// Puts the theorem behind a refiner or a conversion at the end, where it is one of a theorem.
-pub(crate) fn push_given<'a>(
-    case: &Case<'a>,
-    from: usize,
-    lead: &'a str,
-    message: &mut Message,
-) -> Result<(), NoMemory> {
+pub(crate) fn push_given<'a>(case: &Case<'a>, from: usize, lead: &'a str, message: &mut Message) {
     match case.theorem_at(from.saturating_add(1)) {
         Some(premise) if is_before_theorem(case.piece.text(from)) => {
-            case.push(message, &[Text(lead), Theorem(premise)])
+            case.push(message, &[Text(lead), Theorem(premise)]);
         }
-        _ => Ok(()),
+        _ => {}
     }
 }
 
@@ -64,7 +59,7 @@ fn push_unassumed<'a>(
     message: &mut Message,
     premise: &'a Premise,
     hypothesis: &'a Term,
-) -> Result<(), NoMemory> {
+) {
     let parts = [
         Text("; the hypothesis "),
         Shown(hypothesis),
@@ -72,7 +67,7 @@ fn push_unassumed<'a>(
         Quoted(premise.name()),
         Text(" is not assumed"),
     ];
-    case.push(message, &parts)
+    case.push(message, &parts);
 }
 
 /// Puts the theorem at the end that a refiner of theorems does not take at a goal, and why.
@@ -81,7 +76,7 @@ pub(crate) fn push_untaken(
     goal: (&[Term], &Term),
     span: Span,
     message: &mut Message,
-) -> Result<(), NoMemory> {
+) {
     let (assumptions, conclusion) = goal;
     if let Some(premise) = unlike(case, span.from, conclusion) {
         let parts = [
@@ -89,10 +84,8 @@ pub(crate) fn push_untaken(
             Quoted(premise.name()),
             Text(" is not the goal"),
         ];
-        return case.push(message, &parts);
-    }
-    match unassumed(case, span, assumptions) {
-        Some((premise, hypothesis)) => push_unassumed(case, message, premise, hypothesis),
-        None => Ok(()),
+        case.push(message, &parts);
+    } else if let Some((premise, hypothesis)) = unassumed(case, span, assumptions) {
+        push_unassumed(case, message, premise, hypothesis);
     }
 }

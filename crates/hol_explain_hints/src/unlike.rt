@@ -3,7 +3,7 @@ use crate::arguments::Premise;
 use crate::case::Case;
 use crate::parts::{body_at, differing, infix_parts, sides};
 use crate::said::Said::{Shown, Text};
-use hol_explain_words::{Message, NoMemory};
+use hol_explain_words::Message;
 use hol_terms::Term;
 
 // A term that has to be like another, and what is said before it.
@@ -14,13 +14,13 @@ struct Side<'a> {
 }
 
 // Says that two terms have to be alike, and the first parts in which they differ.
-fn differ(
+fn differ<'b>(
     case: &Case<'_>,
     message: &mut Message,
     at: usize,
-    first: Side<'_>,
-    second: Side<'_>,
-) -> Result<bool, NoMemory> {
+    first: Side<'b>,
+    second: Side<'b>,
+) {
     let alike = [
         Text(first.said),
         Shown(first.term),
@@ -28,54 +28,42 @@ fn differ(
         Shown(second.term),
         Text(" have to be alike"),
     ];
-    let said = case.say(message, at, &alike)?;
-    let Some((part, other)) = differing(first.term, second.term) else {
-        return Ok(said);
-    };
-    let parts = [
-        Text("; they differ first at "),
-        Shown(part),
-        Text(" and "),
-        Shown(other),
-    ];
-    case.push(message, &parts)?;
-    Ok(said)
+    case.say(message, at, &alike);
+    if let Some((part, other)) = differing(first.term, second.term) {
+        let parts = [
+            Text("; they differ first at "),
+            Shown(part),
+            Text(" and "),
+            Shown(other),
+        ];
+        case.push(message, &parts);
+    }
 }
 
 // Says how the body of the formula that `EXISTS` is to prove, at its witness, and the conclusion of its theorem differ.
-fn unlike_body(
-    case: &Case<'_>,
-    message: &mut Message,
-    wanted: &Term,
-    premise: &Premise,
-) -> Result<bool, NoMemory> {
-    differ(
-        case,
-        message,
-        premise.at,
-        Side {
-            said: "the body of the first term at the witness, ",
-            term: wanted,
-        },
-        Side {
-            said: " and the conclusion of the theorem, ",
-            term: &premise.conclusion,
-        },
-    )
+fn unlike_body(case: &Case<'_>, message: &mut Message, wanted: &Term, premise: &Premise) {
+    let first = Side {
+        said: "the body of the first term at the witness, ",
+        term: wanted,
+    };
+    let second = Side {
+        said: " and the conclusion of the theorem, ",
+        term: &premise.conclusion,
+    };
+    differ(case, message, premise.at, first, second);
 }
 
 // The same of the formula and the witness that it is given.
-fn no_witness(case: &Case<'_>, message: &mut Message) -> Result<bool, NoMemory> {
+fn no_witness(case: &Case<'_>, message: &mut Message) {
     let (Some(formula), Some(witness), Some(premise)) = (
         case.term(0),
         case.term(1),
         case.theorem(0),
     ) else {
-        return Ok(false);
+        return;
     };
-    match body_at(case.alloc, &formula.term, &witness.term)? {
-        Some(wanted) => unlike_body(case, message, &wanted, premise),
-        None => Ok(false),
+    if let Some(wanted) = body_at(case.alloc, &formula.term, &witness.term, message) {
+        unlike_body(case, message, &wanted, premise);
     }
 }
 
@@ -121,36 +109,28 @@ fn found_part<'a>(rule: &str, conclusion: &'a Term) -> Option<&'a Term> {
 }
 
 // Says which parts of two conclusions have to be alike.
-fn unlike_conclusions(
-    case: &Case<'_>,
-    message: &mut Message,
-    first: &Premise,
-    second: &Premise,
-) -> Result<bool, NoMemory> {
+fn unlike_conclusions(case: &Case<'_>, message: &mut Message, first: &Premise, second: &Premise) {
     let rule = case.rule();
-    let (Some(wanted), Some(found)) = (
+    let (said, behind) = leads(rule);
+    if let (Some(wanted), Some(found)) = (
         wanted_part(rule, &first.conclusion),
         found_part(rule, &second.conclusion),
-    ) else {
-        return Ok(false);
-    };
-    let (said, behind) = leads(rule);
-    let other = Side {
-        said: behind,
-        term: found,
-    };
-    differ(case, message, second.at, Side { said, term: wanted }, other)
+    ) {
+        let other = Side {
+            said: behind,
+            term: found,
+        };
+        differ(case, message, second.at, Side { said, term: wanted }, other);
+    }
 }
 
 /// Says which terms of a rule have to be alike.
-pub(crate) fn not_alpha(case: &Case<'_>, message: &mut Message) -> Result<bool, NoMemory> {
+pub(crate) fn not_alpha(case: &Case<'_>, message: &mut Message) {
     let rule = case.rule();
-    if rule == "EXISTS" {
-        return no_witness(case, message);
-    }
     let from = if rule == "DISJ_CASES" { 1 } else { 0 };
-    match (case.theorem(from), case.theorem(from + 1)) {
-        (Some(first), Some(second)) => unlike_conclusions(case, message, first, second),
-        _ => Ok(false),
+    if rule == "EXISTS" {
+        no_witness(case, message);
+    } else if let (Some(first), Some(second)) = (case.theorem(from), case.theorem(from + 1)) {
+        unlike_conclusions(case, message, first, second);
     }
 }
