@@ -108,8 +108,13 @@ impl Fact {
 
     /// The first or the second of the facts that a conjunction, a denied disjunction or a denied implication is.
     pub fn side(self, alloc: Global, is_first: bool) -> Result<Fact, HostFail> {
-        let just = Ok(self.just);
-        match (dest_formula(&self.formula), self.positive) {
+        let Fact {
+            just,
+            formula,
+            positive,
+        } = self;
+        let just = Ok(just);
+        match (dest_formula(&formula), positive) {
             (Formula::And(p, q), true) => conjunct(alloc, just, p, q, is_first),
             (Formula::Or(p, q), false) => no_disjunct(alloc, just, p, q, is_first),
             (Formula::Implies(p, q), false) => of_no_implication(alloc, just, p, q, is_first),
@@ -245,20 +250,28 @@ impl Alternatives {
 
     /// `F`, of `F` from each alternative.
     pub fn refuted(self, alloc: Global, left: Derivation, right: Derivation) -> Derivation {
-        let just = Ok(self.fact.just);
-        match (dest_formula(&self.fact.formula), self.fact.positive) {
+        let Alternatives {
+            fact: Fact {
+                just,
+                formula,
+                positive,
+            },
+            is_first,
+        } = self;
+        let just = Ok(just);
+        match (dest_formula(&formula), positive) {
             (Formula::Or(_, _), true) => disj_cases(alloc, just, left, right),
             (Formula::And(p, q), false) => no_conjunction(alloc, just, p, left, q, right),
             (Formula::Implies(p, _), true) => by_consequent(alloc, just, p, left, right),
             (Formula::Iff(p, q), true) => {
-                if self.is_first {
+                if is_first {
                     forth(alloc, just, p, left, right)
                 } else {
                     back(alloc, just, q, left, right)
                 }
             }
             (Formula::Iff(p, q), false) => {
-                if self.is_first {
+                if is_first {
                     both_fail(alloc, just, p, left, q, right)
                 } else {
                     both_hold(alloc, just, p, left, q, right)

@@ -48,6 +48,14 @@ fn place(base: usize, number: usize) -> usize {
     base.saturating_add(number)
 }
 
+// Whether a node is the variable at a place.
+fn is_variable_at(node: Node, base: usize, at: usize) -> bool {
+    match node {
+        Node::Variable(number) => place(base, number) == at,
+        _ => false,
+    }
+}
+
 impl Bindings {
     pub(crate) fn new(alloc: Global) -> Bindings {
         Bindings {
@@ -195,13 +203,18 @@ impl Bindings {
         self.spend();
         let a = self.resolved(terms, a);
         let b = self.resolved(terms, b);
-        match (terms.node(a.node), terms.node(b.node)) {
-            (Node::Variable(x), Node::Variable(y)) if place(a.base, x) == place(b.base, y) => {
-                Ok(true)
+        let (left, right) = (terms.node(a.node), terms.node(b.node));
+        if let Node::Variable(number) = left {
+            let at = place(a.base, number);
+            if is_variable_at(right, b.base, at) {
+                return Ok(true);
             }
-            (Node::Variable(_), _) | (_, Node::Variable(_)) if !may_set => Ok(false),
-            (Node::Variable(x), _) => self.bind(terms, place(a.base, x), a, b),
-            (_, Node::Variable(y)) => self.bind(terms, place(b.base, y), b, a),
+            return Ok(may_set && self.bind(terms, at, a, b)?);
+        }
+        if let Node::Variable(number) = right {
+            return Ok(may_set && self.bind(terms, place(b.base, number), b, a)?);
+        }
+        match (left, right) {
             (Node::Symbol(x), Node::Symbol(y)) => Ok(x == y),
             (Node::Apply(f, x), Node::Apply(g, y)) => {
                 self.pairs.push((a.part(x), b.part(y)))?;
