@@ -6,12 +6,11 @@
 mod follow;
 mod message;
 mod notes;
-mod origins;
 mod records;
 mod search;
 mod walk;
 
 pub use follow::Follower;
+pub use hol_explain_hints::{Origin, origin_of};
 pub use hol_script::Refused;
-pub use origins::{Origin, origin_of};
 pub use walk::{Script, explain, explain_refusal, write_records};

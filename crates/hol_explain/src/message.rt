@@ -1,11 +1,10 @@
 // What is said of a refused command.
-ghost use Rattle.std.specs.Prelude.{OnOk};
 ghost use Rattle.hol_script.specs.Managers.{IsManager};
 
 use crate::search::{Trial, open_goals, refused_part};
 use hol_explain_hints::{
-    Arguments, Case, Known, Message, NoMemory, Piece, Premise, Span, first_goal, given,
-    is_looked_up, no_command, of_case, of_part, plain, span_of,
+    Arguments, Case, Known, Message, Piece, Premise, Span, first_goal, is_looked_up, no_command,
+    of_case, of_part, plain, span_of,
 };
 use hol_host::Refiners;
 use hol_model::Fault;
@@ -19,13 +18,16 @@ fn premise(
     manager: &Manager,
     piece: &Piece<'_>,
     at: usize,
-) -> Result<Option<Premise>, NoMemory>
+    message: &mut Message,
+) -> Option<Premise>
     requires { IsManager manager.now }
 {
     let name = piece.text(at);
-    match given(manager.show(alloc, name))? {
-        Some(Printed::Line(line)) => Premise::read(alloc, known, line.text, at, name.len()),
-        _ => Ok(None),
+    match message.given(manager.show(alloc, name)) {
+        Some(Printed::Line(line)) => {
+            Premise::read(alloc, known, line.text, at, name.len(), message)
+        }
+        _ => None,
     }
 }
 
@@ -37,15 +39,16 @@ fn push_premises(
     piece: &Piece<'_>,
     span: Span,
     premises: &mut Vec<Option<Premise>>,
-) -> Result<(), NoMemory>
+    message: &mut Message,
+)
     requires { IsManager manager.now }
 {
     for at in span.from..span.to {
         if is_looked_up(piece, at) {
-            premises.push(premise(alloc, known, manager, piece, at)?)?;
+            let premise = premise(alloc, known, manager, piece, at, message);
+            let _pushed = message.made(premises.push(premise));
         }
     }
-    Ok(())
 }
 
 /// The arguments in a part of a command.
@@ -55,12 +58,14 @@ pub(crate) fn arguments_in(
     manager: &Manager,
     piece: &Piece<'_>,
     span: Span,
-) -> Result<Arguments, NoMemory>
+    message: &mut Message,
+) -> Arguments
     requires { IsManager manager.now }
 {
-    let mut arguments = Arguments::new(alloc, known, piece, span)?;
-    push_premises(alloc, known, manager, piece, span, &mut arguments.theorems)?;
-    Ok(arguments)
+    let mut arguments = Arguments::new(alloc, known, piece, span, message);
+    let premises = &mut arguments.theorems;
+    push_premises(alloc, known, manager, piece, span, premises, message);
+    arguments
 }
 
 // Says what is known of the part of an `e` that is refused.
@@ -69,12 +74,13 @@ fn of_expression<H: Refiners>(
     manager: &mut Manager,
     case: &Case<'_>,
     message: &mut Message,
-) -> Result<bool, NoMemory>
+)
     requires { IsManager manager.old }
-    ensures { OnOk result (IsManager manager.new) }
+    ensures { IsManager manager.new }
 {
-    let part = refused_part(trial, case.known, manager)?;
-    let arguments = arguments_in(trial.alloc, case.known, manager, trial.piece, part.span)?;
+    let (alloc, piece) = (trial.alloc, trial.piece);
+    let part = refused_part(trial, case.known, manager, message);
+    let arguments = arguments_in(alloc, case.known, manager, piece, part.span, message);
     let inner = Case {
         alloc: case.alloc,
         known: case.known,
@@ -85,7 +91,7 @@ fn of_expression<H: Refiners>(
         fault: case.fault,
         row: case.row,
     };
-    of_part(&inner, &part, message)
+    of_part(&inner, &part, message);
 }
 
 // Says what is known of a case, of an `e` by its part that is refused.
@@ -94,42 +100,43 @@ fn of_refusal<H: Refiners>(
     manager: &mut Manager,
     case: &Case<'_>,
     message: &mut Message,
-) -> Result<bool, NoMemory>
+)
     requires { IsManager manager.old }
-    ensures { OnOk result (IsManager manager.new) }
+    ensures { IsManager manager.new }
 {
-    if of_case(case, message)? {
-        return Ok(true);
+    of_case(case, message);
+    if !message.is_empty() {
+        return;
     }
     if trial.piece.text(0) == "e" {
-        return of_expression(trial, manager, case, message);
+        of_expression(trial, manager, case, message);
+    } else {
+        plain(case, message);
     }
-    plain(case, message)
 }
 
-// Says what is known of a command that is refused in this state, whose first goal is a text.
+// Says what is known of a command that is refused in this state, of whose first goal this is the line.
 fn of_command<H: Refiners>(
     trial: &Trial<'_, H>,
     host_names: &[String],
     known: &Known,
     manager: &mut Manager,
     refused: &Refused,
-    goal: &str,
+    goal: &Piece<'_>,
     message: &mut Message,
-) -> Result<bool, NoMemory>
+)
     requires { IsManager manager.old }
-    ensures { OnOk result (IsManager manager.new) }
+    ensures { IsManager manager.new }
 {
     let alloc = trial.alloc;
     let piece = trial.piece;
-    let goal = Piece::of_quote(alloc, goal.as_bytes())?;
-    let arguments = arguments_in(alloc, known, manager, piece, span_of(piece))?;
+    let arguments = arguments_in(alloc, known, manager, piece, span_of(piece), message);
     let case = Case {
         alloc,
         known,
         host_names,
         piece,
-        goal: &goal,
+        goal,
         arguments: &arguments,
         fault: &refused.fault,
         row: match &refused.row {
@@ -137,35 +144,29 @@ fn of_command<H: Refiners>(
             None => None,
         },
     };
-    of_refusal(trial, manager, &case, message)
+    of_refusal(trial, manager, &case, message);
 }
 
-/// What is said of a command that is refused in this state, which stays but for what `b` can take back.
-pub(crate) fn message_of<H: Refiners>(
+/// Says what is known of a command that is refused in this state, which stays but for what `b` can take back.
+pub(crate) fn explain_command<H: Refiners>(
     trial: &Trial<'_, H>,
     host_names: &[String],
     known: &Known,
     manager: &mut Manager,
     refused: &Refused,
-) -> Result<Message, NoMemory>
+    message: &mut Message,
+)
     requires { IsManager manager.old }
-    ensures { OnOk result (IsManager manager.new) }
+    ensures { IsManager manager.new }
 {
     let alloc = trial.alloc;
     if refused.fault == Fault::Syntax {
-        return no_command(alloc, known, trial.piece);
+        no_command(alloc, known, trial.piece, message);
+        return;
     }
-    let goals = open_goals(alloc, manager)?;
+    let goals = open_goals(alloc, manager, message);
     let goal = first_goal(goals.as_str());
-    let mut message = Message::empty(alloc);
-    of_command(
-        trial,
-        host_names,
-        known,
-        manager,
-        refused,
-        goal,
-        &mut message,
-    )?;
-    Ok(message)
+    if let Some(goal) = message.made(Piece::of_quote(alloc, goal.as_bytes())) {
+        of_command(trial, host_names, known, manager, refused, &goal, message);
+    }
 }

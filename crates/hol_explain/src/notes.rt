@@ -1,12 +1,12 @@
 // What is noted of a command that is accepted and suspicious.
-ghost use Rattle.std.specs.Prelude.{OnOk};
 ghost use Rattle.hol_script.specs.Managers.{IsManager};
 
 use crate::message::arguments_in;
+use crate::records::Told;
 use crate::search::{Trial, open_goals, take_back};
 use hol_explain_hints::{
-    Accepted, Arguments, Known, Message, NoMemory, Span, command_of, count_of_goals, has_pairs,
-    next_rewriting, push_notes, span_of, unchanged,
+    Accepted, Arguments, Known, Message, Span, command_of, count_of_goals, has_pairs,
+    next_rewriting, push_notes, push_unchanged, span_of,
 };
 use hol_host::Refiners;
 use hol_script::Manager;
@@ -17,18 +17,19 @@ fn goals_behind<H: Refiners>(
     trial: &Trial<'_, H>,
     manager: &mut Manager,
     span: Span,
-) -> Result<String, NoMemory>
+    notes: &mut Message,
+) -> String
     requires { IsManager manager.old }
-    ensures { OnOk result (IsManager manager.new) }
+    ensures { IsManager manager.new }
 {
-    let text = command_of(trial.alloc, trial.piece, span)?;
+    let text = command_of(trial.alloc, trial.piece, span, notes);
     match execute(manager, trial.alloc, trial.host, &text) {
         Ok(_) => {
-            let goals = open_goals(trial.alloc, manager)?;
+            let goals = open_goals(trial.alloc, manager, notes);
             take_back(trial, manager, 1);
-            Ok(goals)
+            goals
         }
-        Err(_) => Ok(String::new(trial.alloc)),
+        Err(_) => String::new(trial.alloc),
     }
 }
 
@@ -37,18 +38,19 @@ fn goals_before<H: Refiners>(
     trial: &Trial<'_, H>,
     manager: &mut Manager,
     part: Span,
-) -> Result<String, NoMemory>
+    notes: &mut Message,
+) -> String
     requires { IsManager manager.old }
-    ensures { OnOk result (IsManager manager.new) }
+    ensures { IsManager manager.new }
 {
     if part.from <= 1 {
-        return open_goals(trial.alloc, manager);
+        return open_goals(trial.alloc, manager, notes);
     }
     let front = Span {
         from: 1,
         to: part.from.saturating_sub(1),
     };
-    goals_behind(trial, manager, front)
+    goals_behind(trial, manager, front, notes)
 }
 
 // Whether a part of an expression refines goals, and leaves each as it is.
@@ -56,57 +58,60 @@ fn is_unchanged<H: Refiners>(
     trial: &Trial<'_, H>,
     manager: &mut Manager,
     part: Span,
-) -> Result<bool, NoMemory>
+    notes: &mut Message,
+) -> bool
     requires { IsManager manager.old }
-    ensures { OnOk result (IsManager manager.new) }
+    ensures { IsManager manager.new }
 {
-    let first = open_goals(trial.alloc, manager)?;
-    let before = goals_before(trial, manager, part)?;
+    let first = open_goals(trial.alloc, manager, notes);
+    let before = goals_before(trial, manager, part, notes);
     let whole = Span {
         from: 1,
         to: part.to,
     };
-    let behind = goals_behind(trial, manager, whole)?;
+    let behind = goals_behind(trial, manager, whole, notes);
     let is_refined = count_of_goals(before.as_str()) >= count_of_goals(first.as_str());
-    Ok(is_refined && before.as_str() == behind.as_str())
+    is_refined && before.as_str() == behind.as_str()
 }
 
 // The place in the list of the first `REWRITE_TAC` or `CONV_TAC` of an expression that changes no goal.
 fn first_unchanged<H: Refiners>(
     trial: &Trial<'_, H>,
     manager: &mut Manager,
-) -> Result<Option<usize>, NoMemory>
+    notes: &mut Message,
+) -> Option<usize>
     requires { IsManager manager.old }
-    ensures { OnOk result (IsManager manager.new) }
+    ensures { IsManager manager.new }
 {
     let mut from = 1usize;
     for _ in 0..trial.piece.words.len() {
         let Some(part) = next_rewriting(trial.piece, from) else {
             break;
         };
-        if is_unchanged(trial, manager, part)? {
-            return Ok(Some(part.from));
+        if is_unchanged(trial, manager, part, notes) {
+            return Some(part.from);
         }
         from = part.to.saturating_add(1);
     }
-    Ok(None)
+    None
 }
 
 // The same of a command that was accepted, which is taken back meanwhile.
 fn unchanged_in<H: Refiners>(
     trial: &Trial<'_, H>,
     manager: &mut Manager,
-) -> Result<Option<usize>, NoMemory>
+    notes: &mut Message,
+) -> Option<usize>
     requires { IsManager manager.old }
-    ensures { OnOk result (IsManager manager.new) }
+    ensures { IsManager manager.new }
 {
     if trial.piece.text(0) != "e" || next_rewriting(trial.piece, 1).is_none() {
-        return Ok(None);
+        return None;
     }
     take_back(trial, manager, 1);
-    let found = first_unchanged(trial, manager)?;
+    let found = first_unchanged(trial, manager, notes);
     let _again = execute(manager, trial.alloc, trial.host, trial.piece.bytes);
-    Ok(found)
+    found
 }
 
 // The arguments of an accepted command, where notes want them.
@@ -114,7 +119,8 @@ fn arguments<H: Refiners>(
     trial: &Trial<'_, H>,
     known: &Known,
     manager: &Manager,
-) -> Result<Arguments, NoMemory>
+    notes: &mut Message,
+) -> Arguments
     requires { IsManager manager.now }
 {
     let piece = trial.piece;
@@ -122,29 +128,31 @@ fn arguments<H: Refiners>(
     if !has_pairs(piece) {
         span.from = span.to;
     }
-    arguments_in(trial.alloc, known, manager, piece, span)
+    arguments_in(trial.alloc, known, manager, piece, span, notes)
 }
 
-/// What is noted of a command that was accepted, before its names are known.
-pub(crate) fn notes_on<H: Refiners>(
+/// Puts the lines of what is noted of a command at the end that was accepted, before its names are known.
+pub(crate) fn note_command<H: Refiners>(
     trial: &Trial<'_, H>,
+    told: &Told<'_>,
     known: &Known,
     manager: &mut Manager,
-) -> Result<Vec<Message>, NoMemory>
+    notes: &mut Message,
+)
     requires { IsManager manager.old }
-    ensures { OnOk result (IsManager manager.new) }
+    ensures { IsManager manager.new }
 {
-    let mut notes = Vec::new(trial.alloc);
-    let arguments = arguments(trial, known, manager)?;
+    let arguments = arguments(trial, known, manager, notes);
     let accepted = Accepted {
         alloc: trial.alloc,
         known,
+        origins: told.origins,
         piece: trial.piece,
+        place: told.place,
         arguments: &arguments,
     };
-    push_notes(&accepted, &mut notes)?;
-    if let Some(at) = unchanged_in(trial, manager)? {
-        notes.push(unchanged(trial.alloc, trial.piece, at)?)?;
+    push_notes(&accepted, notes);
+    if let Some(at) = unchanged_in(trial, manager, notes) {
+        push_unchanged(&accepted, notes, at);
     }
-    Ok(notes)
 }

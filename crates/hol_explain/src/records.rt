@@ -1,11 +1,10 @@
 // A command of a script, and what it came to, as a line of JSON.
 
-use crate::origins::{Origin, located};
-use hol_explain_hints::{Message, NoMemory, Piece, Place, between};
+use hol_explain_hints::{Message, Origin, Piece, Place, between, located};
 use hol_script::{Printed, Refused};
 use serde::Serialize;
 use serde_json::to_string;
-use std::alloc::Global;
+use std::alloc::{AllocError, Global};
 
 #[derive(Clone, Copy, Serialize)]
 struct Point {
@@ -85,7 +84,7 @@ impl Told<'_> {
 }
 
 // A goal, from its line.
-fn goal_of(alloc: Global, line: &str) -> Result<Goal<'_>, NoMemory> {
+fn goal_of<'a>(alloc: Global, line: &'a str, lines: &mut Message) -> Goal<'a> {
     let (before, conclusion) = match line.split_once("?- ") {
         Some(parts) => parts,
         None => ("", line),
@@ -93,87 +92,90 @@ fn goal_of(alloc: Global, line: &str) -> Result<Goal<'_>, NoMemory> {
     let mut assumptions = Vec::new(alloc);
     for assumption in before.trim_end().split(", ") {
         if !assumption.is_empty() {
-            assumptions.push(assumption)?;
+            let _pushed = lines.made(assumptions.push(assumption));
         }
     }
-    Ok(Goal {
+    Goal {
         assumptions,
         conclusion,
-    })
+    }
 }
 
 // The goals of a text: a line that counts them, and a line for each.
-fn goals_of(alloc: Global, text: &str) -> Result<Vec<Goal<'_>>, NoMemory> {
+fn goals_of<'a>(alloc: Global, text: &'a str, lines: &mut Message) -> Vec<Goal<'a>> {
     let mut goals = Vec::new(alloc);
     for line in text.lines().skip(1) {
-        goals.push(goal_of(alloc, line)?)?;
+        let goal = goal_of(alloc, line, lines);
+        let _pushed = lines.made(goals.push(goal));
     }
-    Ok(goals)
+    goals
 }
 
-// A record as a line.
-fn line_of(alloc: Global, record: &Record<'_>) -> Result<String, NoMemory> {
-    let Ok(mut line) = to_string(alloc, record) else {
-        return Err(NoMemory);
-    };
-    line.push_str("\n")?;
-    Ok(line)
+// Puts a record at the end, as a line.
+fn push_record(alloc: Global, record: &Record<'_>, lines: &mut Message) {
+    lines.push_made(to_string(alloc, record));
+    lines.push_str("\n");
 }
 
-/// The line of a command that is accepted.
-pub(crate) fn accepted_line(
+/// Puts the line of a command at the end that is accepted.
+pub(crate) fn push_accepted(
     alloc: Global,
     told: &Told<'_>,
     printed: &Printed,
-) -> Result<String, NoMemory> {
+    lines: &mut Message,
+) {
     match printed {
-        Printed::Nothing => line_of(alloc, &told.record("", None, None)),
-        Printed::Line(line) => line_of(alloc, &told.record(&line.text, None, None)),
+        Printed::Nothing => push_record(alloc, &told.record("", None, None), lines),
+        Printed::Line(line) => push_record(alloc, &told.record(&line.text, None, None), lines),
         Printed::Goals(text) => {
-            let goals = goals_of(alloc, text)?;
-            line_of(alloc, &told.record(text, Some(goals), None))
+            let goals = goals_of(alloc, text, lines);
+            push_record(alloc, &told.record(text, Some(goals), None), lines);
         }
     }
 }
 
 // What a run prints for a refusal whose command begins on this line.
-fn printed_refusal(alloc: Global, line: usize, refused: &Refused) -> Result<String, NoMemory> {
+fn printed_refusal(alloc: Global, line: usize, refused: &Refused) -> Result<String, AllocError> {
     let number = refused.fault.number();
     let name = refused.fault.name();
     let row = match &refused.row {
         Some(row) => row.as_str(),
         None => "",
     };
-    Ok(format!(in alloc; "line {line}: E{number} {name}{row}\n")?)
+    format!(in alloc; "line {line}: E{number} {name}{row}\n")
 }
 
-// The line of a refused command, for which a run prints this text.
-fn line_of_refused<'a>(
-    alloc: Global,
-    told: &'a Told<'a>,
-    text: &'a str,
+// A refusal of which a message is on what stands at an offset.
+fn refusal_of<'a>(
+    told: &Told<'_>,
     refused: &'a Refused,
-    message: &'a Message,
-) -> Result<String, NoMemory> {
-    let place = told.place.behind(between(told.piece.bytes, 0, message.at));
+    at: usize,
+    message: &'a str,
+) -> Refusal<'a> {
+    let place = told.place.behind(between(told.piece.bytes, 0, at));
     let (_file, here) = located(told.origins, &place);
-    let refusal = Refusal {
+    Refusal {
         number: refused.fault.number(),
         name: refused.fault.name(),
         line: here.line,
         column: here.column,
-        message: &message.text,
-    };
-    line_of(alloc, &told.record(text, None, Some(refusal)))
+        message,
+    }
 }
 
-/// The line of a command that is refused, with what is said of it.
-pub(crate) fn refused_line(
+/// Puts the line of a command at the end that is refused, with what is said of it.
+pub(crate) fn push_refused<'a>(
     alloc: Global,
-    told: &Told<'_>,
-    refused: &Refused,
-    message: &Message,
-) -> Result<String, NoMemory> {
-    let text = printed_refusal(alloc, told.begin().line, refused)?;
-    line_of_refused(alloc, told, &text, refused, message)
+    told: &'a Told<'a>,
+    refused: &'a Refused,
+    message: &'a Message,
+    lines: &mut Message,
+) {
+    let Some(said) = lines.made(message.text()) else {
+        return;
+    };
+    if let Some(text) = lines.made(printed_refusal(alloc, told.begin().line, refused)) {
+        let refusal = refusal_of(told, refused, message.at, said);
+        push_record(alloc, &told.record(&text, None, Some(refusal)), lines);
+    }
 }

@@ -1,10 +1,9 @@
 // Which part of a refused refiner expression is at fault, and at which goal.
-ghost use Rattle.std.specs.Prelude.{OnOk};
 ghost use Rattle.hol_script.specs.Managers.{IsManager};
 
 use hol_explain_hints::{
-    Known, NoMemory, Part, Piece, Span, command_of, count_of_goals, first_member, given,
-    has_misfit, next_joint, next_member, unwrapped,
+    Known, Message, Part, Piece, Span, command_of, count_of_goals, first_member, has_misfit,
+    next_joint, next_member, unwrapped,
 };
 use hol_host::Refiners;
 use hol_script::execute::execute;
@@ -30,21 +29,21 @@ struct Inside {
 }
 
 /// The text of the open goals; nothing where there is none.
-pub(crate) fn open_goals(alloc: Global, manager: &Manager) -> Result<String, NoMemory>
+pub(crate) fn open_goals(alloc: Global, manager: &Manager, message: &mut Message) -> String
     requires { IsManager manager.now }
 {
-    match given(manager.print(alloc))? {
-        Some(Printed::Goals(text)) => Ok(text),
-        _ => Ok(String::new(alloc)),
+    match message.given(manager.print(alloc)) {
+        Some(Printed::Goals(text)) => text,
+        _ => String::new(alloc),
     }
 }
 
 // How many goals are open.
-fn count(alloc: Global, manager: &Manager) -> Result<usize, NoMemory>
+fn count(alloc: Global, manager: &Manager, message: &mut Message) -> usize
     requires { IsManager manager.now }
 {
-    let goals = open_goals(alloc, manager)?;
-    Ok(count_of_goals(goals.as_str()))
+    let goals = open_goals(alloc, manager, message);
+    count_of_goals(goals.as_str())
 }
 
 // Whether a command that leaves goals is accepted; it is taken back.
@@ -66,12 +65,13 @@ fn is_part_accepted<H: Refiners>(
     trial: &Trial<'_, H>,
     manager: &mut Manager,
     span: Span,
-) -> Result<bool, NoMemory>
+    message: &mut Message,
+) -> bool
     requires { IsManager manager.old }
-    ensures { OnOk result (IsManager manager.new) }
+    ensures { IsManager manager.new }
 {
-    let text = command_of(trial.alloc, trial.piece, span)?;
-    Ok(is_accepted(trial, manager, &text))
+    let text = command_of(trial.alloc, trial.piece, span, message);
+    is_accepted(trial, manager, &text)
 }
 
 // The place in the list of the first joint up to which a part is refused, and of the one before it; the end of the part, where it
@@ -80,9 +80,10 @@ fn refused_joint<H: Refiners>(
     trial: &Trial<'_, H>,
     manager: &mut Manager,
     span: Span,
-) -> Result<(Option<usize>, usize), NoMemory>
+    message: &mut Message,
+) -> (Option<usize>, usize)
     requires { IsManager manager.old }
-    ensures { OnOk result (IsManager manager.new) }
+    ensures { IsManager manager.new }
 {
     let mut accepted = None;
     let mut joint = next_joint(trial.piece, span.from, span.to);
@@ -94,13 +95,13 @@ fn refused_joint<H: Refiners>(
             from: span.from,
             to: joint,
         };
-        if !is_part_accepted(trial, manager, front)? {
+        if !is_part_accepted(trial, manager, front, message) {
             break;
         }
         accepted = Some(joint);
         joint = next_joint(trial.piece, joint.saturating_add(1), span.to);
     }
-    Ok((accepted, joint))
+    (accepted, joint)
 }
 
 // Turns the goals up to the first subgoal at which the refiner behind a joint is refused, and answers that refiner.
@@ -109,31 +110,32 @@ fn refused_member<H: Refiners>(
     manager: &mut Manager,
     behind: Span,
     subgoals: usize,
-) -> Result<Inside, NoMemory>
+    message: &mut Message,
+) -> Inside
     requires { IsManager manager.old }
-    ensures { OnOk result (IsManager manager.new) }
+    ensures { IsManager manager.new }
 {
     let mut steps = 1usize;
     let mut member = first_member(trial.piece, behind);
     for _ in 0..subgoals {
-        if !is_part_accepted(trial, manager, member)? {
-            return Ok(Inside {
+        if !is_part_accepted(trial, manager, member, message) {
+            return Inside {
                 span: member,
                 subgoals,
                 steps,
                 is_last: false,
-            });
+            };
         }
         let _turned = execute(manager, trial.alloc, trial.host, b"r 1");
         steps = steps.saturating_add(1);
         member = next_member(trial.piece, behind, member);
     }
-    Ok(Inside {
+    Inside {
         span: behind,
         subgoals,
         steps,
         is_last: true,
-    })
+    }
 }
 
 // What is refused behind a joint, where the part before it is accepted.
@@ -142,26 +144,27 @@ fn behind_joint<H: Refiners>(
     manager: &mut Manager,
     front: Span,
     to: usize,
-) -> Result<Inside, NoMemory>
+    message: &mut Message,
+) -> Inside
     requires { IsManager manager.old }
-    ensures { OnOk result (IsManager manager.new) }
+    ensures { IsManager manager.new }
 {
-    let before = count(trial.alloc, manager)?;
-    let text = command_of(trial.alloc, trial.piece, front)?;
+    let before = count(trial.alloc, manager, message);
+    let text = command_of(trial.alloc, trial.piece, front, message);
     let _done = execute(manager, trial.alloc, trial.host, &text);
-    let subgoals = count(trial.alloc, manager)?
-        .saturating_add(1)
-        .saturating_sub(before);
+    let after = count(trial.alloc, manager, message);
+    let subgoals = after.saturating_add(1).saturating_sub(before);
     let behind = Span { from: front.to, to };
     if has_misfit(trial.piece, behind, subgoals) {
-        return Ok(Inside {
+        Inside {
             span: behind,
             subgoals,
             steps: 1,
             is_last: true,
-        });
+        }
+    } else {
+        refused_member(trial, manager, behind, subgoals, message)
     }
-    refused_member(trial, manager, behind, subgoals)
 }
 
 // What is refused inside a part that is refused at the first goal: one level down.
@@ -169,28 +172,29 @@ fn look_inside<H: Refiners>(
     trial: &Trial<'_, H>,
     manager: &mut Manager,
     span: Span,
-) -> Result<Inside, NoMemory>
+    message: &mut Message,
+) -> Inside
     requires { IsManager manager.old }
-    ensures { OnOk result (IsManager manager.new) }
+    ensures { IsManager manager.new }
 {
-    let (accepted, joint) = refused_joint(trial, manager, span)?;
+    let (accepted, joint) = refused_joint(trial, manager, span, message);
     let front = Span {
         from: span.from,
         to: joint,
     };
     match accepted {
-        None => Ok(Inside {
+        None => Inside {
             span: front,
             subgoals: 1,
             steps: 0,
             is_last: joint >= span.to,
-        }),
+        },
         Some(at) => {
             let done = Span {
                 from: span.from,
                 to: at,
             };
-            behind_joint(trial, manager, done, joint)
+            behind_joint(trial, manager, done, joint, message)
         }
     }
 }
@@ -210,9 +214,10 @@ pub(crate) fn refused_part<H: Refiners>(
     trial: &Trial<'_, H>,
     known: &Known,
     manager: &mut Manager,
-) -> Result<Part, NoMemory>
+    message: &mut Message,
+) -> Part
     requires { IsManager manager.old }
-    ensures { OnOk result (IsManager manager.new) }
+    ensures { IsManager manager.new }
 {
     let mut found = Inside {
         span: Span {
@@ -229,10 +234,17 @@ pub(crate) fn refused_part<H: Refiners>(
             break;
         }
         let inner = unwrapped(trial.piece, found.span);
-        found = look_inside(trial, manager, inner)?;
+        found = look_inside(trial, manager, inner, message);
         steps = steps.saturating_add(found.steps);
     }
-    let goals = open_goals(trial.alloc, manager)?;
+    let goals = open_goals(trial.alloc, manager, message);
     take_back(trial, manager, steps);
-    Part::new(trial.alloc, known, found.span, found.subgoals, goals)
+    Part::new(
+        trial.alloc,
+        known,
+        found.span,
+        found.subgoals,
+        goals,
+        message,
+    )
 }

@@ -3,14 +3,14 @@ ghost use Rattle.std.specs.Prelude.{◌≡◌, ◌∷◌, [], false, IfErr, Cont
 ghost use Rattle.hol_model.specs.declared.fault.Fault.TheVariants.{Memory, WriteFault};
 ghost use Rattle.hol_script.specs.Managers.{IsManager};
 
-use crate::message::message_of;
-use crate::notes::notes_on;
-use crate::origins::{Origin, located};
-use crate::records::{Told, accepted_line, refused_line};
+use crate::message::explain_command;
+use crate::notes::note_command;
+use crate::records::{Told, push_accepted, push_refused};
 use crate::search::Trial;
 use hol_device_io::write_all;
 use hol_explain_hints::{
-    Known, Message, NoMemory, Piece, Place, between, first_kept, noted, told, unended, unfinished,
+    Known, Message, NoMemory, Origin, Piece, Place, between, first_kept, located, push_refusal,
+    unended,
 };
 use hol_host::Refiners;
 use hol_model::{Fault, Sink};
@@ -37,13 +37,6 @@ pub(crate) struct Walk<'a, H> {
     makes_records: bool,
 }
 
-// What is written of a command, and whether it was refused.
-#[derive(Drop)]
-struct Written {
-    text: Option<String>,
-    is_refused: bool,
-}
-
 impl<'s, H> Walk<'s, H> {
     /// A walk that tells refused commands by messages.
     pub(crate) fn new(alloc: Global, script: &'s Script<'s>, host: &'s H) -> Walk<'s, H> {
@@ -52,6 +45,15 @@ impl<'s, H> Walk<'s, H> {
             script,
             host,
             makes_records: false,
+        }
+    }
+
+    // With what parts of a command are tried.
+    fn trial<'a>(&'a self, piece: &'a Piece<'a>) -> Trial<'a, H> {
+        Trial {
+            alloc: self.alloc,
+            host: self.host,
+            piece,
         }
     }
 
@@ -66,80 +68,59 @@ impl<'s, H> Walk<'s, H> {
     }
 }
 
-// What is said of a refused command that begins at a place.
-fn explained<H: Refiners>(
+// Puts the line of a refusal at the end, and what is said of it.
+fn tell_refused<H>(
     walk: &Walk<'_, H>,
-    known: &Known,
-    manager: &mut Manager,
-    piece: &Piece<'_>,
-    place: &Place,
+    told: &Told<'_>,
     refused: &Refused,
-) -> Result<String, NoMemory>
-    requires { IsManager manager.old }
-    ensures { OnOk result (IsManager manager.new) }
-{
-    let trial = Trial {
-        alloc: walk.alloc,
-        host: walk.host,
-        piece,
-    };
-    let message = message_of(&trial, walk.script.host_names, known, manager, refused)?;
+    message: &Message,
+    lines: &mut Message,
+) {
     if walk.makes_records {
-        return refused_line(
-            walk.alloc,
-            &walk.told(piece, place, b";;"),
-            refused,
-            &message,
-        );
+        push_refused(walk.alloc, told, refused, message, lines);
+        return;
     }
-    let place = place.behind(between(piece.bytes, 0, message.at));
-    let (file, here) = located(walk.script.origins, &place);
-    told(walk.alloc, file, &here, &refused.fault, &message)
+    let place = told.place.behind(between(told.piece.bytes, 0, message.at));
+    let (file, here) = located(told.origins, &place);
+    push_refusal(walk.alloc, lines, file, &here, &refused.fault, message);
 }
 
-// The lines of notes on a command that begins at a place; nothing where there is none.
-fn note_lines<H: Refiners>(
-    walk: &Walk<'_, H>,
-    piece: &Piece<'_>,
-    place: &Place,
-    notes: &[Message],
-) -> Result<Option<String>, NoMemory> {
-    if notes.is_empty() {
-        return Ok(None);
-    }
-    let mut lines = String::new(walk.alloc);
-    for at in 0..notes.len() {
-        let here = place.behind(between(piece.bytes, 0, notes[at].at));
-        let (file, here) = located(walk.script.origins, &here);
-        let line = noted(walk.alloc, file, &here, &notes[at])?;
-        lines.push_str(line.as_str())?;
-    }
-    Ok(Some(lines))
-}
-
-// What is written of a command that is accepted.
-fn accepted<H: Refiners>(
+// Explains a refused command.
+fn explain_refused<H: Refiners>(
     walk: &Walk<'_, H>,
     known: &Known,
     manager: &mut Manager,
-    piece: &Piece<'_>,
-    place: &Place,
-    printed: &Printed,
-) -> Result<Option<String>, NoMemory>
+    told: &Told<'_>,
+    refused: &Refused,
+    lines: &mut Message,
+)
     requires { IsManager manager.old }
-    ensures { OnOk result (IsManager manager.new) }
+    ensures { IsManager manager.new }
+{
+    let trial = walk.trial(told.piece);
+    let host_names = walk.script.host_names;
+    let mut message = Message::new(walk.alloc);
+    explain_command(&trial, host_names, known, manager, refused, &mut message);
+    tell_refused(walk, told, refused, &message, lines);
+}
+
+// Tells a command that is accepted.
+fn tell_accepted<H: Refiners>(
+    walk: &Walk<'_, H>,
+    known: &Known,
+    manager: &mut Manager,
+    told: &Told<'_>,
+    printed: &Printed,
+    lines: &mut Message,
+)
+    requires { IsManager manager.old }
+    ensures { IsManager manager.new }
 {
     if walk.makes_records {
-        let line = accepted_line(walk.alloc, &walk.told(piece, place, b";;"), printed)?;
-        return Ok(Some(line));
+        push_accepted(walk.alloc, told, printed, lines);
+    } else {
+        note_command(&walk.trial(told.piece), told, known, manager, lines);
     }
-    let trial = Trial {
-        alloc: walk.alloc,
-        host: walk.host,
-        piece,
-    };
-    let notes = notes_on(&trial, known, manager)?;
-    note_lines(walk, piece, place, &notes)
 }
 
 // What is known behind a command that is accepted, which stands behind a place.
@@ -192,83 +173,72 @@ fn miss(
     known.miss(alloc, piece, line.as_str())
 }
 
-// Runs a command, and answers what is written of it.
+// Runs a command, and puts what is told of it at the end. Answers whether it was refused.
 fn answer<H: Refiners>(
     walk: &Walk<'_, H>,
     known: &mut Known,
     manager: &mut Manager,
-    bytes: &[u8],
+    piece: &Piece<'_>,
     place: &Place,
-) -> Result<Written, NoMemory>
+    lines: &mut Message,
+) -> bool
     requires { IsManager manager.old }
-    ensures { OnOk result (IsManager manager.new) }
+    ensures { IsManager manager.new }
 {
-    let piece = Piece::new(walk.alloc, bytes)?;
-    match execute(manager, walk.alloc, walk.host, bytes) {
+    let (alloc, origins) = (walk.alloc, walk.script.origins);
+    let told = walk.told(piece, place, b";;");
+    match execute(manager, alloc, walk.host, piece.bytes) {
         Ok(printed) => {
-            let text = accepted(walk, known, manager, &piece, place, &printed)?;
-            learn(
-                walk.alloc,
-                walk.script.origins,
-                known,
-                &piece,
-                place,
-                &printed,
-            )?;
-            Ok(Written {
-                text,
-                is_refused: false,
-            })
+            tell_accepted(walk, known, manager, &told, &printed, lines);
+            let _learnt = lines.made(learn(alloc, origins, known, piece, place, &printed));
+            false
         }
         Err(refused) => {
-            let text = explained(walk, known, manager, &piece, place, &refused)?;
-            miss(walk.alloc, walk.script.origins, known, &piece, place)?;
-            Ok(Written {
-                text: Some(text),
-                is_refused: true,
-            })
+            explain_refused(walk, known, manager, &told, &refused, lines);
+            let _missed = lines.made(miss(alloc, origins, known, piece, place));
+            true
         }
     }
 }
 
-// What is said of the first command of a script that is refused when a script begins.
-fn explained_first<H: Refiners>(walk: &Walk<'_, H>, refused: &Refused) -> Result<String, NoMemory> {
-    let known = Known::new(walk.alloc)?;
-    let Ok(mut manager) = Manager::new(walk.alloc) else {
-        return Err(NoMemory);
-    };
+// Explains a command that is refused when a script begins.
+fn explain_begin<H: Refiners>(
+    walk: &Walk<'_, H>,
+    piece: &Piece<'_>,
+    refused: &Refused,
+    lines: &mut Message,
+) {
+    let told = walk.told(piece, &Place::start(), b";;");
+    if let Some(known) = lines.made(Known::new(walk.alloc)) {
+        if let Some(mut manager) = lines.made(Manager::new(walk.alloc)) {
+            explain_refused(walk, &known, &mut manager, &told, refused, lines);
+        }
+    }
+}
+
+// Explains the first command of a script, which is refused when a script begins.
+fn explain_first<H: Refiners>(walk: &Walk<'_, H>, refused: &Refused, lines: &mut Message) {
     let command = match cut(walk.script.text) {
         Some((command, _)) => command,
         None => walk.script.text,
     };
-    let piece = Piece::new(walk.alloc, command)?;
-    explained(walk, &known, &mut manager, &piece, &Place::start(), refused)
+    if let Some(piece) = lines.made(Piece::new(walk.alloc, command)) {
+        explain_begin(walk, &piece, refused, lines);
+    }
 }
 
-// Writes a text, where there was memory for it.
-fn write_told<W: Sink>(writer: &mut W, told: Result<String, NoMemory>) -> Result<(), Fault>
+// Writes lines, where there was memory for them.
+fn write_lines<W: Sink>(writer: &mut W, lines: &Message) -> Result<(), Fault>
     requires { W.has_failed writer.old ≡ false }
     ensures unfailed { OnOk result (W.has_failed writer.new ≡ false) }
     ensures refusals { IfErr result (Contains (WriteFault ∷ Memory ∷ [])) }
 {
-    let Ok(text) = told else {
+    let Ok(text) = lines.text() else {
         return Err(Fault::Memory);
     };
     match write_all(writer, text.as_bytes()) {
         Ok(()) => Ok(()),
         Err(_) => Err(Fault::WriteFault),
-    }
-}
-
-// Writes a text, where there is one.
-fn write_any<W: Sink>(writer: &mut W, text: Option<String>) -> Result<(), Fault>
-    requires { W.has_failed writer.old ≡ false }
-    ensures unfailed { OnOk result (W.has_failed writer.new ≡ false) }
-    ensures refusals { IfErr result (Contains (WriteFault ∷ Memory ∷ [])) }
-{
-    match text {
-        Some(text) => write_told(writer, Ok(text)),
-        None => Ok(()),
     }
 }
 
@@ -287,36 +257,22 @@ pub(crate) fn explain_piece<W: Sink, H: Refiners>(
     ensures manager { OnOk result (IsManager manager.new) }
     ensures refusals { IfErr result (Contains (WriteFault ∷ Memory ∷ [])) }
 {
-    match answer(walk, known, manager, piece, place) {
-        Ok(Written { text, is_refused }) => match write_any(writer, text) {
-            Ok(()) => Ok(is_refused),
-            Err(fault) => Err(fault),
-        },
-        Err(_) => Err(Fault::Memory),
+    let Ok(piece) = Piece::new(walk.alloc, piece) else {
+        return Err(Fault::Memory);
+    };
+    let mut lines = Message::new(walk.alloc);
+    let is_refused = answer(walk, known, manager, &piece, place, &mut lines);
+    match write_lines(writer, &lines) {
+        Ok(()) => Ok(is_refused),
+        Err(fault) => Err(fault),
     }
 }
 
-// What is said of a rest without a mark behind it, which begins at a place.
-fn unfinished_rest<H: Refiners>(
-    walk: &Walk<'_, H>,
-    rest: &[u8],
-    place: &Place,
-) -> Result<String, NoMemory> {
-    let piece = Piece::new(walk.alloc, rest)?;
-    let start = piece.start(0);
-    if walk.makes_records {
-        let message = unended(walk.alloc, start)?;
-        let refused = Refused::plain(Fault::Syntax);
-        return refused_line(
-            walk.alloc,
-            &walk.told(&piece, place, b""),
-            &refused,
-            &message,
-        );
-    }
-    let begin = place.behind(between(rest, 0, start));
-    let (file, here) = located(walk.script.origins, &begin);
-    unfinished(walk.alloc, file, between(rest, start, rest.len()), &here)
+// Tells a rest without a mark behind it, which begins at a place.
+fn tell_unended<H>(walk: &Walk<'_, H>, rest: &Piece<'_>, place: &Place, lines: &mut Message) {
+    let told = walk.told(rest, place, b"");
+    let message = unended(walk.alloc, rest.start(0));
+    tell_refused(walk, &told, &Refused::plain(Fault::Syntax), &message, lines);
 }
 
 /// Writes what is told of a rest without a mark behind it, where it holds more than white space. Answers whether it does.
@@ -332,7 +288,12 @@ pub(crate) fn explain_rest<W: Sink, H: Refiners>(
     if is_blank_text(rest) {
         return Ok(false);
     }
-    match write_told(writer, unfinished_rest(walk, rest, place)) {
+    let Ok(rest) = Piece::new(walk.alloc, rest) else {
+        return Err(Fault::Memory);
+    };
+    let mut lines = Message::new(walk.alloc);
+    tell_unended(walk, &rest, place, &mut lines);
+    match write_lines(writer, &lines) {
         Ok(()) => Ok(true),
         Err(fault) => Err(fault),
     }
@@ -433,7 +394,9 @@ pub fn explain_refusal<H: Refiners>(
     refused: &Refused,
 ) -> Result<String, Fault> {
     let walk = Walk::new(alloc, script, host);
-    match explained_first(&walk, refused) {
+    let mut lines = Message::new(alloc);
+    explain_first(&walk, refused, &mut lines);
+    match lines.finish() {
         Ok(text) => Ok(text),
         Err(_) => Err(Fault::Memory),
     }

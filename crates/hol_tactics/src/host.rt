@@ -89,8 +89,8 @@ impl Conversion {
     }
 }
 
-// What stands under a name in a table.
-fn named<F: Copy>(table: &[(&'static str, F)], name: &str) -> Option<F>
+/// What stands under a name in a table.
+pub fn named<F: Copy>(table: &[(&'static str, F)], name: &str) -> Option<F>
     ensures { IsSome result ↔ Contains (map (λ entry. entry.0.now) table.now) name.now }
 {
     for entry in table {

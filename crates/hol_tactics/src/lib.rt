@@ -5,4 +5,4 @@
 
 mod host;
 
-pub use host::{CONVERSIONS, Conversion, REFINERS, Refiner, Tactics};
+pub use host::{CONVERSIONS, Conversion, REFINERS, Refiner, Tactics, named};

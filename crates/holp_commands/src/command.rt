@@ -111,34 +111,35 @@ fn migrate(rt: &HostRuntime, matches: &ArgMatches<'_>) -> u8 {
     tell(rt, migrate_file(rt, value(matches, "LOG"), new))
 }
 
+// Runs the command that was asked for.
+fn run_matched(rt: &HostRuntime, matches: &ArgMatches<'_>) -> anyhow::Result<u8> {
+    match matches.subcommand() {
+        Some(("run", asked)) => run(rt, asked),
+        Some(("repl", asked)) => repl(rt, asked),
+        Some(("check", asked)) => Ok(check(rt, asked)),
+        Some(("migrate", asked)) => Ok(migrate(rt, asked)),
+        // clap has asked for a command.
+        _ => Ok(2),
+    }
+}
+
+// Tells what is wrong with words, or the help or the version that they ask for.
+fn tell_words(rt: &HostRuntime, error: clap::Error) -> anyhow::Result<u8> {
+    if error.kind() == ErrorKind::OutOfMemory {
+        return Ok(tell(rt, Err(Fault::Memory)));
+    }
+    error.print(rt)?;
+    Ok(error.exit_code() as u8)
+}
+
 /// Runs the command that words name, of which the first is the program's name, and answers the exit status: 0 where all was
 /// accepted, 1 where a command of a script was refused, 2 for wrong words and for faults of files, memory or length, 3 for a
 /// refused log. Help and the version go to standard output, faults to standard error. An error is another with status 2,
 /// which is not told yet.
 pub fn run_command(rt: &HostRuntime, words: &[String]) -> anyhow::Result<u8> {
     let command = command_line(rt.alloc())?;
-    let matches = match command.try_get_matches_from(words) {
-        Ok(matches) => matches,
-        Err(error) => {
-            if error.kind() == ErrorKind::OutOfMemory {
-                return Ok(tell(rt, Err(Fault::Memory)));
-            }
-            error.print(rt)?;
-            return Ok(error.exit_code() as u8);
-        }
-    };
-    if let Some(asked) = matches.subcommand_matches("run") {
-        return run(rt, asked);
+    match command.try_get_matches_from(words) {
+        Ok(matches) => run_matched(rt, &matches),
+        Err(error) => tell_words(rt, error),
     }
-    if let Some(asked) = matches.subcommand_matches("repl") {
-        return repl(rt, asked);
-    }
-    if let Some(asked) = matches.subcommand_matches("check") {
-        return Ok(check(rt, asked));
-    }
-    if let Some(asked) = matches.subcommand_matches("migrate") {
-        return Ok(migrate(rt, asked));
-    }
-    // clap has asked for a command.
-    Ok(2)
 }

@@ -3,23 +3,18 @@ ghost use Rattle.std.specs.Prelude.{◌≡◌, false};
 
 use crate::console::Console;
 use crate::feed::Feed;
-use crate::hosting::{host_names, store_samples};
+use crate::hosting::{host, push_host_names};
 use crate::laws::logs_are_checked;
 use crate::output::Output;
-use crate::running::create;
+use crate::running::{create, refused_in};
 use crate::scripts::open_scripts;
 use crate::words::VERSION;
 use hol_device_adapters::{IntoCall, IntoWrite};
-use hol_host::{Beside, Host};
-use hol_host_samples::{liar, liar2, peel, swap};
-use hol_just::Goal;
+use hol_host::Refiners;
 use hol_model::{Fault, Sink};
-use hol_script::converse;
-use hol_tactics::Tactics;
-use hol_terms::Term;
+use hol_script::{Ended, converse};
 use holp_files::ScriptFile;
 use holp_goals::View;
-use std::alloc::Global;
 use std::cell::RefCell;
 use std::io::{IsTerminal, Write};
 use std::mem::forget;
@@ -37,56 +32,75 @@ fn greet(rt: &HostRuntime, wants_log: bool) {
     let _ = eprintln!(rt; "holp {VERSION}. Each command ends with `;;`. Ctrl-D ends{ending}.");
 }
 
-// Converses over files that were opened under these names, of which the last is standard input, with the functions of a host, and
-// answers how many of the commands were refused. Goals are laid out on standard output, and messages written to standard error.
-fn converse_with<'a, L: Sink>(
+// Tells how many commands were refused in a conversation at a console, once what stands behind the last `;;` is explained.
+fn refused_at<H: Refiners>(
+    console: &Console<'_, '_, '_, H>,
+    ended: Result<Ended, Fault>,
+) -> Result<u64, Fault> {
+    match ended {
+        Ok(ended) => {
+            console.end();
+            refused_in(ended)
+        }
+        Err(fault) => Err(fault),
+    }
+}
+
+// Converses over a feed with the host of the program, and answers how many of the commands were refused. Goals are laid out on
+// standard output, and messages written to standard error.
+fn converse_with<'a, 'b, L: Sink>(
     rt: &'a HostRuntime,
-    host: &Beside<Host, Tactics>,
-    names: &'a [&'a str],
-    opened: Vec<ScriptFile>,
+    host_names: &'b [String],
+    view: &'b RefCell<View>,
+    feed: Feed<'a>,
     log: &mut L,
     wants_log: bool,
 ) -> Result<u64, Fault>
     requires { L.has_failed log.old ≡ false }
 {
-    let alloc = rt.alloc();
-    let host_names = host_names(alloc)?;
-    let view = RefCell::new(View::new(alloc, b"")?);
-    let feed = Feed::new(names, opened, Vec::new(alloc));
+    let host = host();
     let prompts = rt.stdin().is_terminal();
     if prompts {
         greet(rt, wants_log);
     }
-    let mut reader = Console::new(rt, host, &host_names, &view, feed, prompts);
-    let mut writer = Output::new(rt, &[], Some(&view));
-    let ended = converse(alloc, &mut reader, &mut writer, log, wants_log, host)?;
-    reader.end();
-    let ended = ended.whole()?;
-    let refused = ended.summary.refused;
-    // The program ends, and the sessions go with their memory, as one.
-    forget(ended);
+    let mut reader = Console::new(rt, &host, host_names, view, feed, prompts);
+    let mut writer = Output::new(rt, &[], Some(view));
+    let ended = converse(rt.alloc(), &mut reader, &mut writer, log, wants_log, &host);
+    let refused = refused_at(&reader, ended);
+    // The program ends, and the session goes with its memory, as one.
     forget(reader);
-    Ok(refused)
+    refused
 }
 
-// The same with the program's host.
+// The same, with the names of the host's functions, and a view that knows no declarations yet.
 fn converse_hosted<'a, L: Sink>(
     rt: &'a HostRuntime,
-    names: &'a [&'a str],
-    opened: Vec<ScriptFile>,
+    feed: Feed<'a>,
     log: &mut L,
     wants_log: bool,
 ) -> Result<u64, Fault>
     requires { L.has_failed log.old ≡ false }
 {
     let alloc = rt.alloc();
-    let mut samples = Host::new(alloc);
-    store_samples!(alloc, samples);
-    let host = Beside {
-        first: samples,
-        second: Tactics,
-    };
-    converse_with(rt, &host, names, opened, log, wants_log)
+    let mut host_names = Vec::new(alloc);
+    push_host_names(alloc, &mut host_names)?;
+    let view = RefCell::new(View::new(alloc, b"")?);
+    converse_with(rt, &host_names, &view, feed, log, wants_log)
+}
+
+// The same, with a log whose file is made first.
+fn converse_logged<'a>(rt: &'a HostRuntime, feed: Feed<'a>, log: &str) -> Result<u64, Fault> {
+    let mut file = create(rt, log)?;
+    let logs = Box::new(rt.alloc(), move |piece: &[u8]| file.write(piece))?;
+    converse_hosted(rt, feed, &mut IntoCall::new(logs), true)
+}
+
+// Opens scripts, and behind them standard input.
+fn open_with_input(rt: &HostRuntime, scripts: &[&str]) -> Result<Vec<ScriptFile>, Fault> {
+    let mut opened = open_scripts(rt, scripts, true)?;
+    let input = ScriptFile::open(rt, "-", true)?;
+    opened.push(input)?;
+    Ok(opened)
 }
 
 /// Runs scripts, and then the commands that come on standard input, and answers how many were refused. Where a log is asked for, its
@@ -98,19 +112,18 @@ pub(crate) fn converse_over(
 ) -> Result<u64, Fault> {
     logs_are_checked();
     let alloc = rt.alloc();
+    let input = if rt.stdin().is_terminal() {
+        TERMINAL
+    } else {
+        "-"
+    };
     let mut names = Vec::new(alloc);
     names.extend_from_slice(scripts)?;
-    names.push("-")?;
-    let opened = open_scripts(rt, &names, true)?;
-    if rt.stdin().is_terminal() {
-        names.pop();
-        names.push(TERMINAL)?;
+    names.push(input)?;
+    let opened = open_with_input(rt, scripts)?;
+    let feed = Feed::new(&names, opened, Vec::new(alloc));
+    match log {
+        Some(log) => converse_logged(rt, feed, log),
+        None => converse_hosted(rt, feed, &mut IntoWrite::new(Vec::new(alloc)), false),
     }
-    let Some(log) = log else {
-        let mut no_log = IntoWrite::new(Vec::new(alloc));
-        return converse_hosted(rt, &names, opened, &mut no_log, false);
-    };
-    let mut file = create(rt, log)?;
-    let logs = Box::new(alloc, move |piece: &[u8]| file.write(piece))?;
-    converse_hosted(rt, &names, opened, &mut IntoCall::new(logs), true)
 }

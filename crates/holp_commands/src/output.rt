@@ -20,6 +20,14 @@ pub(crate) struct Output<'a> {
     failed: bool,
 }
 
+// What a view shows of a piece. None: there is no memory.
+fn shown_by(alloc: Global, view: &RefCell<View>, piece: &[u8]) -> Option<Vec<u8>> {
+    let mut view = view.try_borrow_mut().ok()?;
+    let mut shown = Vec::new(alloc);
+    view.show(alloc, piece, &mut shown).ok()?;
+    Some(shown)
+}
+
 impl Output<'_> {
     /// The standard output of a run whose lines come from these scripts, through this view; of no scripts, no refusal is told.
     pub(crate) fn new<'a>(
@@ -47,9 +55,7 @@ impl Output<'_> {
         let Some(view) = self.view else {
             return self.stdout.write(piece).ok();
         };
-        let mut view = view.try_borrow_mut().ok()?;
-        let mut shown = Vec::new(self.alloc);
-        view.show(self.alloc, piece, &mut shown).ok()?;
+        let shown = shown_by(self.alloc, view, piece)?;
         self.stdout.write_all(&shown).ok()?;
         Some(piece.len())
     }

@@ -1,20 +1,15 @@
-// Runs scripts over a host with the sample refiners and conversions, and those of `hol_tactics`.
+// Runs scripts over the host of the program.
 ghost use Rattle.std.specs.Prelude.{◌≡◌, false};
 
-use crate::hosting::{host_names, store_samples};
+use crate::hosting::{host, push_host_names};
 use crate::laws::logs_are_checked;
 use crate::options::Options;
 use crate::output::Output;
 use crate::scripts::{Scripts, open_scripts, read_scripts};
 use hol_device_adapters::{FromRead, IntoCall, IntoWrite};
 use hol_explain::{Script, explain, write_records};
-use hol_host::{Beside, Host};
-use hol_host_samples::{liar, liar2, peel, swap};
-use hol_just::Goal;
 use hol_model::{Fault, Sink};
-use hol_script::run;
-use hol_tactics::Tactics;
-use hol_terms::Term;
+use hol_script::{Ended, run};
 use holp_goals::View;
 use std::alloc::Global;
 use std::cell::RefCell;
@@ -42,11 +37,47 @@ fn tell_other_answers(rt: &HostRuntime, refused: u64, explained: Result<u64, Fau
     }
 }
 
-// Runs a script over a host, and answers how many of its commands were refused. Where these are to be explained, what is said of
-// them, and noted of others, is written to standard error behind the run, and takes no part in how it ends.
+// Explains on standard error the commands that a run of a script refused, of which there are so many.
+fn explain_run(rt: &HostRuntime, script: &Script<'_>, refused: u64) {
+    let alloc = rt.alloc();
+    let mut output = rt.stderr();
+    if let Ok(writes) = Box::new(alloc, move |piece: &[u8]| output.write(piece)) {
+        let explained = explain(alloc, script, &host(), &mut IntoCall::new(writes));
+        tell_other_answers(rt, refused, explained);
+    }
+}
+
+/// How many commands were refused in a session that has ended. The program ends, and the session goes with its memory, as one.
+pub(crate) fn refused_in(ended: Ended) -> Result<u64, Fault> {
+    match ended.whole() {
+        Ok(progress) => {
+            let refused = progress.summary.refused;
+            forget(progress);
+            Ok(refused)
+        }
+        Err(fault) => Err(fault),
+    }
+}
+
+// The same of a run of a script, whose refused commands are explained on standard error where that is asked for.
+fn refused_in_run(
+    rt: &HostRuntime,
+    script: &Script<'_>,
+    explains: bool,
+    ended: Ended,
+) -> Result<u64, Fault> {
+    if !explains {
+        return refused_in(ended);
+    }
+    let refused = ended.whole()?.summary.refused;
+    explain_run(rt, script, refused);
+    Ok(refused)
+}
+
+// Runs a script over the host of the program, and answers how many of its commands were refused. Where these are to be explained,
+// what is said of them, and noted of others, is written to standard error behind the run, and takes no part in how it ends.
 fn run_with<W: Sink, L: Sink>(
     rt: &HostRuntime,
-    host: &Beside<Host, Tactics>,
     script: &Script<'_>,
     options: Options,
     writer: &mut W,
@@ -58,46 +89,26 @@ fn run_with<W: Sink, L: Sink>(
 {
     let alloc = rt.alloc();
     if options.tells_records {
-        return write_records(alloc, script, host, writer);
+        return write_records(alloc, script, &host(), writer);
     }
     let mut reader = FromRead::new(script.text);
-    let ended = run(alloc, &mut reader, writer, log, wants_log, host)?.whole()?;
-    let refused = ended.summary.refused;
-    if options.explains {
-        drop(ended);
-        let mut output = rt.stderr();
-        if let Ok(writes) = Box::new(alloc, move |piece: &[u8]| output.write(piece)) {
-            let explained = explain(alloc, script, host, &mut IntoCall::new(writes));
-            tell_other_answers(rt, refused, explained);
-        }
-    } else {
-        // The program ends, and the session goes with its memory, as one.
-        forget(ended);
+    match run(alloc, &mut reader, writer, log, wants_log, &host()) {
+        Ok(ended) => refused_in_run(rt, script, options.explains, ended),
+        Err(fault) => Err(fault),
     }
-    Ok(refused)
 }
 
-// Runs a script over a host with the sample refiners and conversions and those of `hol_tactics`, and answers how many of its
-// commands were refused.
-fn run_hosted<W: Sink, L: Sink>(
-    rt: &HostRuntime,
-    script: &Script<'_>,
+// The view of the output of scripts, where goals are laid out.
+fn view_of(
+    alloc: Global,
+    scripts: &Scripts<'_>,
     options: Options,
-    writer: &mut W,
-    log: &mut L,
-    wants_log: bool,
-) -> Result<u64, Fault>
-    requires writer_unfailed { W.has_failed writer.old ≡ false }
-    requires log_unfailed { L.has_failed log.old ≡ false }
-{
-    let alloc = rt.alloc();
-    let mut samples = Host::new(alloc);
-    store_samples!(alloc, samples);
-    let host = Beside {
-        first: samples,
-        second: Tactics,
-    };
-    run_with(rt, &host, script, options, writer, log, wants_log)
+) -> Result<Option<RefCell<View>>, Fault> {
+    if options.shows_goals {
+        Ok(Some(RefCell::new(View::new(alloc, &scripts.text)?)))
+    } else {
+        Ok(None)
+    }
 }
 
 // Runs scripts as one, and answers how many of their commands were refused. Standard error tells where these stand, or, where it
@@ -111,20 +122,17 @@ fn run_over<L: Sink>(
 ) -> Result<u64, Fault>
     requires { L.has_failed log.old ≡ false }
 {
-    let host_names = host_names(rt.alloc())?;
+    let mut host_names = Vec::new(rt.alloc());
+    push_host_names(rt.alloc(), &mut host_names)?;
     let script = Script {
         origins: scripts.origins.as_slice(),
         text: scripts.text.as_slice(),
         host_names: &host_names,
     };
-    let view = if options.shows_goals {
-        Some(RefCell::new(View::new(rt.alloc(), &scripts.text)?))
-    } else {
-        None
-    };
+    let view = view_of(rt.alloc(), scripts, options)?;
     let is_told = options.explains || options.tells_records;
     let mut writer = Output::new(rt, scripts.told(is_told), view.as_ref());
-    run_hosted(rt, &script, options, &mut writer, log, wants_log)
+    run_with(rt, &script, options, &mut writer, log, wants_log)
 }
 
 /// Runs scripts as one, and answers how many of their commands were refused.

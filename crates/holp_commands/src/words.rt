@@ -24,89 +24,90 @@ fn log_option<'a>(alloc: Global) -> Arg<'a> {
         .action(ArgAction::Set)
 }
 
+// An option that stands alone.
+fn flag<'a>(alloc: Global, name: &'a str, help: &'a str) -> Arg<'a> {
+    Arg::new(alloc, name)
+        .long(name)
+        .help(help)
+        .action(ArgAction::SetTrue)
+}
+
+// The option that asks for records.
+fn json_flag<'a>(alloc: Global) -> Result<Arg<'a>, Fault> {
+    let help = "Tells each command by a line of JSON, with its message";
+    Ok(flag(alloc, "json", help).conflicts_with_all(&["log", "explain", "goals"])?)
+}
+
+fn run_words<'a>(alloc: Global) -> Result<Command<'a>, Fault> {
+    let scripts = file_argument(
+        alloc,
+        "SCRIPT",
+        "The files of the proof scripts; - is standard input",
+    );
+    Ok(
+        Command::new(alloc, "run")
+            .about("Runs proof scripts, one after another as one")
+            .arg(scripts.num_args(1..).action(ArgAction::Append))?
+            .arg(log_option(alloc))?
+            .arg(flag(alloc, "explain", "Explains each refusal on standard error"))?
+            .arg(flag(alloc, "goals", "Lays open goals out in lines"))?
+            .arg(json_flag(alloc)?)?,
+    )
+}
+
+fn repl_words<'a>(alloc: Global) -> Result<Command<'a>, Fault> {
+    let scripts = Arg::new(alloc, "SCRIPT")
+        .help("The files of the proof scripts that come first")
+        .num_args(0..)
+        .action(ArgAction::Append);
+    Ok(
+        Command::new(alloc, "repl")
+            .about("Runs proof scripts, and then commands as they come on standard input")
+            .arg(scripts)?
+            .arg(log_option(alloc))?,
+    )
+}
+
+// The option that asks for a review.
+fn review_flag<'a>(alloc: Global) -> Result<Arg<'a>, Fault> {
+    let help =
+        "Lists theory and claims as scripts write them, and warns of unusual logical constants";
+    Ok(flag(alloc, "review", help).conflicts_with("theory")?)
+}
+
+fn check_words<'a>(alloc: Global) -> Result<Command<'a>, Fault> {
+    let theory = "Lists the definitions and declarations of the log too";
+    let log = "The file of the proof log; - is standard input";
+    Ok(
+        Command::new(alloc, "check")
+            .about("Checks a proof log and lists its claims")
+            .arg(flag(alloc, "theory", theory))?
+            .arg(review_flag(alloc)?)?
+            .arg(file_argument(alloc, "LOG", log))?,
+    )
+}
+
+fn migrate_words<'a>(alloc: Global) -> Result<Command<'a>, Fault> {
+    let log = "The file of the proof log; - is standard input";
+    Ok(
+        Command::new(alloc, "migrate")
+            .about("Checks a proof log and writes it in the second version")
+            .arg(file_argument(alloc, "LOG", log))?
+            .arg(file_argument(alloc, "NEW", "The file to write"))?,
+    )
+}
+
 /// The commands with their arguments.
 pub(crate) fn command_line<'a>(alloc: Global) -> Result<Command<'a>, Fault> {
-    let run = Command::new(alloc, "run")
-        .about("Runs proof scripts, one after another as one")
-        .arg(
-            file_argument(
-                alloc,
-                "SCRIPT",
-                "The files of the proof scripts; - is standard input",
-            )
-            .num_args(1..)
-            .action(ArgAction::Append),
-        )?
-        .arg(log_option(alloc))?
-        .arg(
-            Arg::new(alloc, "explain")
-                .long("explain")
-                .help("Explains each refusal on standard error")
-                .action(ArgAction::SetTrue),
-        )?
-        .arg(
-            Arg::new(alloc, "goals")
-                .long("goals")
-                .help("Lays open goals out in lines")
-                .action(ArgAction::SetTrue),
-        )?
-        .arg(
-            Arg::new(alloc, "json")
-                .long("json")
-                .help("Tells each command by a line of JSON, with its message")
-                .conflicts_with("log")?
-                .conflicts_with("explain")?
-                .conflicts_with("goals")?
-                .action(ArgAction::SetTrue),
-        )?;
-    let repl = Command::new(alloc, "repl")
-        .about("Runs proof scripts, and then commands as they come on standard input")
-        .arg(
-            Arg::new(alloc, "SCRIPT")
-                .help("The files of the proof scripts that come first")
-                .num_args(0..)
-                .action(ArgAction::Append),
-        )?
-        .arg(log_option(alloc))?;
-    let check = Command::new(alloc, "check")
-        .about("Checks a proof log and lists its claims")
-        .arg(
-            Arg::new(alloc, "theory")
-                .long("theory")
-                .help("Lists the definitions and declarations of the log too")
-                .action(ArgAction::SetTrue),
-        )?
-        .arg(
-            Arg::new(alloc, "review")
-                .long("review")
-                .help(
-                    "Lists theory and claims as scripts write them, and warns of unusual logical constants",
-                )
-                .conflicts_with("theory")?
-                .action(ArgAction::SetTrue),
-        )?
-        .arg(file_argument(
-            alloc,
-            "LOG",
-            "The file of the proof log; - is standard input",
-        ))?;
-    let migrate = Command::new(alloc, "migrate")
-        .about("Checks a proof log and writes it in the second version")
-        .arg(file_argument(
-            alloc,
-            "LOG",
-            "The file of the proof log; - is standard input",
-        ))?
-        .arg(file_argument(alloc, "NEW", "The file to write"))?;
     Ok(
         Command::new(alloc, "holp")
             .version(VERSION)
             .about("A theorem prover for higher-order logic")
             .subcommand_required(true)
-            .subcommand(run)?
-            .subcommand(repl)?
-            .subcommand(check)?
-            .subcommand(migrate)?,
+            .subcommand(run_words(alloc)?)?
+            .subcommand(repl_words(alloc)?)?
+            .subcommand(check_words(alloc)?)?
+            .subcommand(migrate_words(alloc)?)?,
     )
 }
 
