@@ -209,10 +209,12 @@ fn explain_begin<H: Refiners>(
     lines: &mut Message,
 ) {
     let told = walk.told(piece, &Place::start(), b";;");
-    if let Some(known) = lines.made(Known::new(walk.alloc)) {
-        if let Some(mut manager) = lines.made(Manager::new(walk.alloc)) {
-            explain_refused(walk, &known, &mut manager, &told, refused, lines);
-        }
+    let Some(known) = lines.made(Known::new(walk.alloc)) else {
+        return;
+    };
+    match Manager::new(walk.alloc) {
+        Ok(mut manager) => explain_refused(walk, &known, &mut manager, &told, refused, lines),
+        Err(fault) => lines.push_made(Err(fault)),
     }
 }
 
