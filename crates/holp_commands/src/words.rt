@@ -35,7 +35,12 @@ fn flag<'a>(alloc: Global, name: &'a str, help: &'a str) -> Arg<'a> {
 // The option that asks for records.
 fn json_flag<'a>(alloc: Global) -> Result<Arg<'a>, Fault> {
     let help = "Tells each command by a line of JSON, with its message";
-    Ok(flag(alloc, "json", help).conflicts_with_all(&["log", "explain", "goals"])?)
+    Ok(
+        flag(alloc, "json", help)
+            .conflicts_with("log")?
+            .conflicts_with("explain")?
+            .conflicts_with("goals")?,
+    )
 }
 
 fn run_words<'a>(alloc: Global) -> Result<Command<'a>, Fault> {
