@@ -10,16 +10,19 @@ kit = os.path.dirname(os.path.realpath(os.popen("command -v rt").read().strip())
 path = f"{kit}/rt-plant"
 loads = 'rt, bodies = load("rtlib.py"), load("rt-plant-bodies")\n'
 remembers = f"""
-def remembered(part, kept={{}}):
+stamps = {{}}
+
+
+def remembered(part):
     own = getattr(rt.Crate, part)
 
     def get(self):
         if not self.folder.startswith({root!r}) or os.path.basename(self.folder) == {name!r}:
             return own(self)
-        key = (self.folder, part)
-        if key not in kept:
-            kept[key] = own(self)
-        return list(kept[key]) if isinstance(kept[key], list) else kept[key]
+        kept = stamps if part == "stamp" else self.__dict__.setdefault("_kept", {{}})
+        if self.folder not in kept:
+            kept[self.folder] = own(self)
+        return list(kept[self.folder]) if isinstance(kept[self.folder], list) else kept[self.folder]
 
     setattr(rt.Crate, part, get)
 
