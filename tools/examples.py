@@ -1,9 +1,9 @@
 #!/usr/bin/env python3
 """examples.py [PROGRAM] [--write]: the examples and links of README.md and docs/ against what the gate runs.
 
-`rt ci` runs the command lines of crates/holp_examples/data/lines.txt and compares what they print with crates/holp_examples/stdout;
-of the host in crates/holp_host_example likewise. This tool compares the pages with those files. A comment stands before a block of
-code:
+`rt ci` runs the command lines of crates/holp_examples/data/lines.txt and compares what they print with crates/holp_examples/stdout,
+where what the library's scripts print stands behind it; of the host in crates/holp_host_example likewise. This tool compares the
+pages with those files. A comment stands before a block of code:
 
     <!-- example: NAME.hol -->                  lines of the script, each command with what it prints behind `> `
     <!-- example: NAME.hol, its log -->         lines of its log; `.. checked`, `.. reviewed`: of what `check --theory`, `--review` say
@@ -15,8 +15,9 @@ The lines of a block stand there in one piece, but where a line `..` says that s
 refusal, as `| E5 UnknownConst |`, ends with commands that stand in reference/refusals.hol and of which the last meets that refusal.
 A block of shell whose commands all stand in lines.txt (there without `examples/`) is compared with what the gate compares, but for
 the messages on standard error. Other blocks of shell, these messages, and rows whose commands are for a shell (`$ ..`) are compared
-where PROGRAM is given. With --write, PROGRAM makes crates/holp_examples/stdout anew, and what blocks of commands print. Each
-difference is told, and the status is then 1. Each number of crates/hol_model/src/limits.rt stands in the table of limits.
+where PROGRAM is given. With --write, PROGRAM makes the command lines' part of crates/holp_examples/stdout anew, and what blocks of
+commands print. Each difference is told, and the status is then 1. Each number of crates/hol_model/src/limits.rt stands in the table
+of limits.
 """
 import os
 import re
@@ -38,9 +39,15 @@ def text(path):
         return file.read()
 
 
+def split_stdout():
+    """what the program of the crate prints: of the command lines, and of the library"""
+    of_lines, mark, of_library = text(f"{CRATE}/stdout").partition("== logic.hol\n")
+    return of_lines, mark + of_library
+
+
 def write_stdout():
-    """what the program of the crate prints, made by PROGRAM"""
-    made = ""
+    """what the program of the crate prints of the command lines, made by PROGRAM"""
+    made, of_library = "", split_stdout()[1]
     with tempfile.TemporaryDirectory() as room:
         data = shutil.copytree(f"{CRATE}/data", f"{room}/data")
         with open(f"{CRATE}/stdin", encoding="utf-8") as given:
@@ -48,12 +55,12 @@ def write_stdout():
                 ran = subprocess.run([PROGRAM, *line.split()[2:]], cwd=data, stdin=given, stdout=subprocess.PIPE, stderr=subprocess.DEVNULL, text=True, timeout=120)
                 made += f"{line}\n{ran.stdout}" + (f"[{ran.returncode}]\n" if ran.returncode else "")
     with open(f"{CRATE}/stdout", "w", encoding="utf-8") as file:
-        file.write(made)
+        file.write(made + of_library)
 
 
 def cut_stdout():
     """what the gate compares, by its command lines, each as a list of lines"""
-    left, shown = text(f"{CRATE}/stdout").splitlines(), {}
+    left, shown = split_stdout()[0].splitlines(), {}
     for line, behind in zip(LINES, LINES[1:] + [None]):
         if left[:1] != [line]:
             sys.exit(f"{CRATE}/stdout: {line} does not stand where it should")

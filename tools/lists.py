@@ -7,7 +7,7 @@
     all pages              each path that begins with a crate's name or a folder of the repository, and each `crate::name`
     bench/README.md        the works
     README.md              the seconds of works, which stand in docs/BENCHMARKS.md; the number of theorems
-    library/README.md      the theorems, with what holp_library prints of them, and their numbers
+    library/README.md      the theorems, with what holp_examples prints of them, and their numbers
     library/developments   the numbers of commands and characters
 """
 import glob
@@ -90,7 +90,7 @@ def plain(shown):
 
 
 counts, total = dict(re.findall(r"(?m)^\| `(\w+)\.hol` \|.*\| (\d+) \|", text("library/README.md"))), 0
-printed = dict(re.findall(r"(?m)^(\w+): ((?:.* )?\|- .*)$", text("crates/holp_library/stdout").split("== tests/")[0]))
+printed = dict(re.findall(r"(?m)^(\w+): ((?:.* )?\|- .*)$", part("crates/holp_examples/stdout", "\n== logic.hol\n", "\n== tests/")))
 page = text("library/README.md")
 chapters = re.split(r"(?m)^## .*\(`library/(\w+)\.hol`\).*$", page)
 for name, chapter in zip(chapters[1::2], chapters[2::2]):

@@ -1,59 +1,102 @@
-// Runs of scripts, and what they write.
+// Runs of scripts, and conversations, over devices.
+ghost use Rattle.std.specs.Prelude.{◌≡◌, false};
+
 use crate::counting::Counting;
 use hol_device_adapters::FromRead;
-use hol_model::Fault;
+use hol_model::{Fault, Source};
 use hol_script::{Ended, Summary, converse, run};
-use hol_test_sample_devices::{Drips, Kept};
+use hol_test_sample_devices::{Drips, Kept, Narrow};
 use hol_test_sample_host::Samples;
 use std::alloc::Global;
 
-/// What a run wrote, and what it counted.
-#[derive(Drop)]
-pub(crate) struct Written {
-    pub(crate) output: Vec<u8>,
-    pub(crate) summary: Summary,
+/// Whether a script is run or answered as it comes, with a log or without one, how many bytes of it can be read, and how many its
+/// output and its log have room for.
+#[derive(Clone, Copy)]
+pub(crate) struct Setting {
+    pub is_conversation: bool,
+    pub wants_log: bool,
+    pub reads: usize,
+    pub output_room: usize,
+    pub log_room: usize,
 }
 
-fn written_by(writer: Kept, ended: Result<Ended, Fault>) -> Result<Written, Fault> {
-    match ended {
-        Ok(ended) => Ok(Written {
-            output: writer.bytes,
-            summary: ended.progress.summary,
-        }),
-        Err(fault) => Err(fault),
+impl Setting {
+    /// Bytes and room enough, and a log.
+    pub(crate) fn logged(is_conversation: bool) -> Setting {
+        Setting {
+            is_conversation,
+            wants_log: true,
+            reads: usize::MAX,
+            output_room: usize::MAX,
+            log_room: usize::MAX,
+        }
+    }
+
+    /// The same without a log.
+    pub(crate) fn unlogged(is_conversation: bool) -> Setting {
+        let mut setting = Setting::logged(is_conversation);
+        setting.wants_log = false;
+        setting
     }
 }
 
-/// Runs a script, and makes no log.
-pub(crate) fn run_whole(alloc: Global, script: &[u8]) -> Result<Written, Fault> {
-    let mut reader = FromRead::new(script);
-    let mut writer = Kept::new(alloc);
-    let mut no_log = Kept::new(alloc);
-    let ended = run(
-        alloc,
-        &mut reader,
-        &mut writer,
-        &mut no_log,
-        false,
-        &Samples,
-    );
-    written_by(writer, ended)
+/// What a run has answered: what the run or its log is refused for, and what it counted, which is nothing where it is refused.
+#[derive(Clone, Copy)]
+pub(crate) struct Told {
+    pub refusal: Option<Fault>,
+    pub log_refusal: Option<Fault>,
+    pub summary: Summary,
 }
 
-/// The same as a conversation that reads byte by byte.
-pub(crate) fn run_dripping(alloc: Global, script: &[u8]) -> Result<Written, Fault> {
-    let mut reader = Drips::new(script, script.len());
-    let mut writer = Kept::new(alloc);
-    let mut no_log = Kept::new(alloc);
-    let ended = converse(
-        alloc,
-        &mut reader,
-        &mut writer,
-        &mut no_log,
-        false,
-        &Samples,
-    );
-    written_by(writer, ended)
+/// What a run has answered and written.
+#[derive(Drop)]
+pub(crate) struct Left {
+    pub told: Told,
+    pub output: Vec<u8>,
+    pub log: Vec<u8>,
+}
+
+fn told_of(answer: Result<Ended, Fault>) -> Told {
+    match answer {
+        Ok(ended) => Told {
+            refusal: None,
+            log_refusal: ended.logged.err(),
+            summary: ended.progress.summary,
+        },
+        Err(fault) => Told {
+            refusal: Some(fault),
+            log_refusal: None,
+            summary: Summary {
+                accepted: 0,
+                refused: 0,
+                printed: 0,
+            },
+        },
+    }
+}
+
+/// Runs the script of a source.
+pub(crate) fn run_source<R: Source>(alloc: Global, reader: &mut R, setting: Setting) -> Left
+    requires unfailed { R.has_failed reader.old ≡ false }
+{
+    let mut writer = Narrow::new(alloc, setting.output_room);
+    let mut log = Narrow::new(alloc, setting.log_room);
+    let wants_log = setting.wants_log;
+    let answer = if setting.is_conversation {
+        converse(alloc, reader, &mut writer, &mut log, wants_log, &Samples)
+    } else {
+        run(alloc, reader, &mut writer, &mut log, wants_log, &Samples)
+    };
+    Left {
+        told: told_of(answer),
+        output: writer.bytes,
+        log: log.bytes,
+    }
+}
+
+/// Runs a script that is read byte by byte.
+pub(crate) fn run_dripping(alloc: Global, script: &[u8], setting: Setting) -> Left {
+    run_source(alloc, &mut Drips::new(script, setting.reads), setting)
 }
 
 /// What a script writes over a host that counts its calls.

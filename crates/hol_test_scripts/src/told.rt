@@ -3,16 +3,17 @@ use hol_explain::{Origin, Refused, Script, explain, explain_refusal, write_recor
 use hol_model::Fault;
 use hol_test_sample_devices::Kept;
 use hol_test_sample_host::Samples;
+use serde_json::Value;
 use std::alloc::Global;
 
-// The file of a script.
-const ONE_FILE: [Origin<'static>; 1] = [Origin {
+/// The file of a script.
+pub(crate) const ONE_FILE: [Origin<'static>; 1] = [Origin {
     file: "s",
     lines_before: 0,
 }];
 
-// The files of a script, of which one has no line.
-const THREE_FILES: [Origin<'static>; 3] = [
+/// The files of a script, of which one has no line.
+pub(crate) const THREE_FILES: [Origin<'static>; 3] = [
     Origin {
         file: "a",
         lines_before: 0,
@@ -36,8 +37,12 @@ fn host_names(alloc: Global) -> Result<Vec<String>, Fault> {
     Ok(names)
 }
 
-// The messages and notes on a script of these files.
-fn messages_at(alloc: Global, origins: &[Origin<'_>], text: &[u8]) -> Result<Vec<u8>, Fault> {
+/// The messages and notes on a script of these files.
+pub(crate) fn messages(
+    alloc: Global,
+    origins: &[Origin<'_>],
+    text: &[u8],
+) -> Result<Vec<u8>, Fault> {
     let names = host_names(alloc)?;
     let script = Script {
         origins,
@@ -47,16 +52,6 @@ fn messages_at(alloc: Global, origins: &[Origin<'_>], text: &[u8]) -> Result<Vec
     let mut writer = Kept::new(alloc);
     explain(alloc, &script, &Samples, &mut writer)?;
     Ok(writer.bytes)
-}
-
-/// The messages and notes on a script of one file.
-pub(crate) fn messages(alloc: Global, text: &[u8]) -> Result<Vec<u8>, Fault> {
-    messages_at(alloc, &ONE_FILE, text)
-}
-
-/// The messages and notes on a script that was put together from three files.
-pub(crate) fn messages_of_files(alloc: Global, text: &[u8]) -> Result<Vec<u8>, Fault> {
-    messages_at(alloc, &THREE_FILES, text)
 }
 
 /// The message on the first command, where there was no memory for it.
@@ -84,4 +79,29 @@ pub(crate) fn records(alloc: Global, text: &[u8]) -> Result<Vec<u8>, Fault> {
     let mut writer = Kept::new(alloc);
     write_records(alloc, &script, &Samples, &mut writer)?;
     Ok(writer.bytes)
+}
+
+// Appends the text of a record, which is a line of JSON.
+fn push_text_of(alloc: Global, texts: &mut Vec<u8>, line: &str) -> Result<(), Fault> {
+    let Ok(record) = Value::from_str(alloc, line) else {
+        return Err(Fault::Syntax);
+    };
+    let Some(text) = record.get("text").and_then(Value::as_str) else {
+        return Err(Fault::Syntax);
+    };
+    texts.extend_from_slice(text.as_bytes())?;
+    Ok(())
+}
+
+/// The texts of the records of a script's commands, one behind another.
+pub(crate) fn texts_of_records(alloc: Global, text: &[u8]) -> Result<Vec<u8>, Fault> {
+    let records = records(alloc, text)?;
+    let Ok(lines) = str::from_utf8(&records) else {
+        return Err(Fault::Syntax);
+    };
+    let mut texts = Vec::new(alloc);
+    for line in lines.lines() {
+        push_text_of(alloc, &mut texts, line)?;
+    }
+    Ok(texts)
 }

@@ -1,56 +1,25 @@
-//! Runs the command lines of data/lines.txt one after another, as the program `holp` runs them, and prints each line, what the
-//! command writes on standard output, and behind it `[N]` where its status N is not 0. So the scripts of the README and of docs/
-//! are run, each in a session of its own, and logs are written, printed, checked and migrated. What commands tell on standard
-//! error (faults, messages, and in which of several scripts a refused command stands) is not compared.
+//! Runs the command lines of data/lines.txt, those of the README and of docs/ among them (`lines`), and behind them the scripts of the
+//! library (`library`), and prints what they write.
 #![tactic(auto)]
 
-use holp_commands::run_command;
-use std::alloc::{AllocError, Global};
-use std::fs;
+mod library;
+mod lines;
+
+use crate::library::run_library;
+use crate::lines::run_lines;
 use std::process::ExitCode;
 
-// The words of a command line, of which the first is the program's name; `$` stands before them.
-fn words_of(alloc: Global, line: &str) -> Result<Vec<String>, AllocError> {
-    let mut words = Vec::new(alloc);
-    for word in line.split_whitespace().skip(1) {
-        words.push(String::from_str(alloc, word)?)?;
-    }
-    Ok(words)
-}
-
-// Runs a command, and answers its status.
-fn status_of(rt: &HostRuntime, words: &[String]) -> u8 {
-    match run_command(rt, words) {
-        Ok(status) => status,
-        Err(error) => {
-            let _ = eprintln!(rt; "holp: {error}");
-            2
-        }
-    }
-}
-
-// Prints a command line, what the command writes, and its status where that is not 0.
-fn run_line(rt: &HostRuntime, line: &str) -> anyhow::Result<()> {
-    println!(rt; "{line}")?;
-    let words = words_of(rt.alloc(), line)?;
-    let status = status_of(rt, words.as_slice());
-    if status != 0 {
-        println!(rt; "[{status}]")?;
-    }
-    Ok(())
-}
-
-fn run_lines(rt: &HostRuntime) -> anyhow::Result<()> {
-    let lines = fs::read_to_string(rt, "lines.txt")?;
-    for line in lines.lines() {
-        run_line(rt, line)?;
-    }
-    Ok(())
+fn run_all(rt: &HostRuntime) -> anyhow::Result<()> {
+    run_lines(rt)?;
+    run_library(rt)
 }
 
 fn main(rt: HostRuntime) -> ExitCode {
-    match run_lines(&rt) {
+    match run_all(&rt) {
         Ok(()) => ExitCode::SUCCESS,
-        Err(_) => ExitCode::from(2),
+        Err(error) => {
+            let _ = eprintln!(rt; "{error}");
+            ExitCode::from(2)
+        }
     }
 }

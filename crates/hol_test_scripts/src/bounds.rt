@@ -1,15 +1,8 @@
-//! How many inferences TAUT takes for the formulas of data/bounds.txt, each right behind the prelude and the laws of tautologies. A
-//! line `N: FORMULA; OTHERS` asks whether the formula takes at most N more than the others together; a line of another form is
-//! printed as it is. What TAUT answers is shown by the rows `tautologies_*` of `hol_test_scripts`. At last it prints whether the entries
-//! of a recorder that are given back go, and no others.
-#![tactic(auto)]
-
-mod entries;
-
+// How many inferences TAUT takes, each time right behind the prelude and the laws of tautologies. What it answers is shown by the rows
+// `tautologies_*`.
 ghost use Rattle.std.specs.Prelude.{◌≡◌, []};
 ghost use Rattle.hol_taut_laws.specs.HasLaws.{HasLaws};
 
-use crate::entries::{forgets, gives_back};
 use hol_journal::Recorder;
 use hol_model::Fault;
 use hol_prelude::prelude;
@@ -19,8 +12,6 @@ use hol_taut_laws::{Laws, tautology_laws};
 use hol_terms::Term;
 use hol_types::Ty;
 use std::alloc::Global;
-use std::fs;
-use std::process::ExitCode;
 
 // The names of the variables, all of type `bool`.
 const VARIABLES: &str = "a b c d e f g h i j k l m n r";
@@ -96,51 +87,20 @@ fn verdict(alloc: Global, scope: &Scope, bound: &str, formulas: &str) -> &'stati
     }
 }
 
-fn print_line(rt: &HostRuntime, scope: &Scope, line: &str) -> Result<(), Fault> {
-    let printed = match line.split_once(": ") {
-        Some((bound, formulas)) => {
-            let verdict = verdict(rt.alloc(), scope, bound, formulas);
-            println!(rt; "{verdict} {bound}")
-        }
-        None => println!(rt; "{line}"),
-    };
-    match printed {
-        Ok(()) => Ok(()),
-        Err(_) => Err(Fault::WriteFault),
-    }
-}
-
-fn print_lines(rt: &HostRuntime, text: &str) -> Result<(), Fault> {
+/// Prints the lines of a text. A line `N: FORMULA; OTHERS` asks whether the formula takes at most N inferences more than the others
+/// together; a line of another form is printed as it is.
+pub(crate) fn print_bounds(rt: &HostRuntime, text: &str) -> anyhow::Result<()> {
     let alloc = rt.alloc();
     let mut scope = Scope::new(alloc)?;
     add_names(alloc, &mut scope)?;
     for line in text.lines() {
-        print_line(rt, &scope, line)?;
+        match line.split_once(": ") {
+            Some((bound, formulas)) => {
+                let verdict = verdict(alloc, &scope, bound, formulas);
+                println!(rt; "{verdict} {bound}")?;
+            }
+            None => println!(rt; "{line}")?,
+        }
     }
     Ok(())
-}
-
-// Prints which entries a recorder keeps.
-fn print_entries(rt: &HostRuntime) -> Result<(), Fault> {
-    let goes = gives_back(rt.alloc())?;
-    let is_let_go = forgets(rt.alloc())?;
-    match println!(rt; "entries that are given back go: {goes}, all of them: {is_let_go}") {
-        Ok(()) => Ok(()),
-        Err(_) => Err(Fault::WriteFault),
-    }
-}
-
-fn print_all(rt: &HostRuntime, text: &str) -> Result<(), Fault> {
-    print_lines(rt, text)?;
-    print_entries(rt)
-}
-
-fn main(rt: HostRuntime) -> ExitCode {
-    let Ok(text) = fs::read_to_string(&rt, "bounds.txt") else {
-        return ExitCode::from(2);
-    };
-    match print_all(&rt, &text) {
-        Ok(()) => ExitCode::SUCCESS,
-        Err(_) => ExitCode::from(2),
-    }
 }

@@ -1,7 +1,14 @@
-// Which entries a recorder keeps.
+// Which entries a recorder keeps, and whether a run keeps them.
+use hol_device_adapters::FromRead;
 use hol_journal::Recorder;
 use hol_model::Fault;
+use hol_script::run;
+use hol_test_sample_devices::Kept;
+use hol_test_sample_host::Samples;
 use std::alloc::Global;
+
+// A script of one theorem.
+const SCRIPT: &[u8] = b"thm a = REFL `(x:bool)` ;;";
 
 // A recorder of a declared type and so many axioms.
 fn recorder_of(alloc: Global, axioms: usize) -> Result<Recorder, Fault> {
@@ -41,8 +48,8 @@ const WANTED: [u8; 5] = [
     0b1000_0000,
 ];
 
-/// Whether those that are given back go, and no others, and those that come later are kept at their numbers.
-pub(crate) fn gives_back(alloc: Global) -> Result<bool, Fault> {
+// Whether those that are given back go, and no others, and those that come later are kept at their numbers.
+fn gives_back(alloc: Global) -> Result<bool, Fault> {
     let mut recorder = recorder_of(alloc, 3)?;
     let all = kept(&recorder);
     recorder.give_back(2);
@@ -56,10 +63,38 @@ pub(crate) fn gives_back(alloc: Global) -> Result<bool, Fault> {
     Ok([all, first, later, same, declared] == WANTED)
 }
 
-/// Whether none is kept where all are let go, nor any that comes later.
-pub(crate) fn forgets(alloc: Global) -> Result<bool, Fault> {
+// Whether none is kept where all are let go, nor any that comes later.
+fn forgets(alloc: Global) -> Result<bool, Fault> {
     let mut recorder = recorder_of(alloc, 1)?;
     recorder.forget();
     make(alloc, &mut recorder, 1)?;
     Ok(recorder.entries() == 3 && kept(&recorder) == 0)
+}
+
+// Whether a log could still be written behind a run of a script of one theorem, by whether the run was to write one.
+fn keeps_entries(alloc: Global, wants_log: bool) -> Result<bool, Fault> {
+    let mut reader = FromRead::new(SCRIPT);
+    let mut writer = Kept::new(alloc);
+    let mut log = Kept::new(alloc);
+    let ended = run(
+        alloc,
+        &mut reader,
+        &mut writer,
+        &mut log,
+        wants_log,
+        &Samples,
+    )?;
+    Ok(ended.progress.manager.log_text(alloc, &[]).is_ok())
+}
+
+/// Prints which entries are kept.
+pub(crate) fn print_kept(rt: &HostRuntime) -> anyhow::Result<()> {
+    let alloc = rt.alloc();
+    let with_log = keeps_entries(alloc, true)?;
+    let without_log = keeps_entries(alloc, false)?;
+    println!(rt; "entries kept: {with_log} with a log, {without_log} without one")?;
+    let goes = gives_back(alloc)?;
+    let is_let_go = forgets(alloc)?;
+    println!(rt; "entries that are given back go: {goes}, all of them: {is_let_go}")?;
+    Ok(())
 }
