@@ -138,7 +138,9 @@ fn behind_joint<H: Refiners>(
     let _done = execute(manager, trial.alloc, trial.host, &text);
     let after = open_goals(trial.alloc, manager, message);
     let done = count_of_goals(before.as_str());
-    let subgoals = count_of_goals(after.as_str()).saturating_add(1).saturating_sub(done);
+    let subgoals = count_of_goals(after.as_str())
+        .saturating_add(1)
+        .saturating_sub(done);
     let behind = Span { from: front.to, to };
     if has_misfit(trial.piece, behind, subgoals) {
         Inside {

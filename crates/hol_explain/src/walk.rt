@@ -230,7 +230,13 @@ pub(crate) fn explain_rest<W: Sink, H: Refiners>(
     let mut lines = Message::new(walk.alloc);
     let told = Told::new(walk.script.origins, &rest, *place, b"");
     let message = unended(walk.alloc, rest.start(0));
-    tell_refused(walk, &told, &Refused::plain(Fault::Syntax), &message, &mut lines);
+    tell_refused(
+        walk,
+        &told,
+        &Refused::plain(Fault::Syntax),
+        &message,
+        &mut lines,
+    );
     match write_lines(writer, &lines) {
         Ok(()) => Ok(true),
         Err(fault) => Err(fault),

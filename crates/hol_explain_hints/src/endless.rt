@@ -76,7 +76,9 @@ pub(crate) fn push_endless(case: &Case<'_>, message: &mut Message) {
                 let parts = [
                     Text("; "),
                     Quoted(name),
-                    Text(" applies to what it makes, as its left side matches a part of its right side: "),
+                    Text(
+                        " applies to what it makes, as its left side matches a part of its right side: ",
+                    ),
                     Text("`CONV_TAC (ONCE_DEPTH_CONV (REWR_CONV "),
                     Text(name),
                     Text("))` uses it once"),

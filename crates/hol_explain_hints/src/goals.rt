@@ -136,7 +136,13 @@ fn push_alternatives(case: &Case<'_>, part: &Part, message: &mut Message) {
             push_failed(case, from, lead, message);
             lead = "; ";
         } else if let Some(wanted) = wanted(word) {
-            push_wanted(case, part, Span { from, to: joint }, (lead, wanted), message);
+            push_wanted(
+                case,
+                part,
+                Span { from, to: joint },
+                (lead, wanted),
+                message,
+            );
             lead = "; ";
         }
         if joint >= to {
@@ -154,7 +160,8 @@ fn push_row(case: &Case<'_>, formula: &Term, row: &[bool], message: &mut Message
     for at in 0..atoms.len().min(row.len()) {
         let lead = if at == 0 { ": " } else { ", " };
         let value = if row[at] { "=T" } else { "=F" };
-        case.teller.push(message, &[Text(lead), Bare(&atoms[at]), Text(value)]);
+        case.teller
+            .push(message, &[Text(lead), Bare(&atoms[at]), Text(value)]);
     }
 }
 
@@ -173,8 +180,7 @@ fn push_reason(case: &Case<'_>, from: usize, goal: (&[Term], &Term), message: &m
             }
         }
         ("EXISTS_TAC", _, Some(witness)) => {
-            case.teller
-                .push_misfit(message, conclusion, &witness.term);
+            case.teller.push_misfit(message, conclusion, &witness.term);
         }
         _ => {}
     }
@@ -193,7 +199,9 @@ pub fn of_part(case: &Case<'_>, part: &Part, message: &mut Message) {
     match (case.fault, &part.goal) {
         (Fault::LengthMismatch, _) => {
             let subgoals = part.subgoals;
-            message.push_made(format!(in case.teller.alloc; "; the number of subgoals is {subgoals}"));
+            message.push_made(format!(in case.teller.alloc;
+                "; the number of subgoals is {subgoals}"
+            ));
         }
         (Fault::BadShape | Fault::RefineFails, _) => push_alternatives(case, part, message),
         (_, Some((assumptions, conclusion))) if is_leaf => {

@@ -10,10 +10,7 @@ const UNFIT: &str = " finds types that do not fit";
 
 // Puts the left sides of the equations at the end that `MK_COMB` applies to one another.
 fn push_left_sides(case: &Case<'_>, message: &mut Message) {
-    let (Some(first), Some(second)) = (
-        case.arguments.theorem(0),
-        case.arguments.theorem(1),
-    ) else {
+    let (Some(first), Some(second)) = (case.arguments.theorem(0), case.arguments.theorem(1)) else {
         return;
     };
     if let (Some((function, _)), Some((argument, _))) = (

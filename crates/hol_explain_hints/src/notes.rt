@@ -203,7 +203,12 @@ fn push_variables(of: &Accepted<'_>, notes: &mut Message) {
     for at in 0..of.told.piece.words.len() {
         if of.told.piece.kind(at) == Kind::Quote {
             if let Some(inside) = notes.made(Piece::of_quote(of.alloc, of.told.piece.quoted(at))) {
-                push_in_quote(of, notes, &inside, of.told.piece.start(at).saturating_add(1));
+                push_in_quote(
+                    of,
+                    notes,
+                    &inside,
+                    of.told.piece.start(at).saturating_add(1),
+                );
             }
         }
     }

@@ -169,10 +169,7 @@ impl<'a> Quote<'a> {
         let Operands { first, second, .. } = operands;
         let (lead, joint) = match operation {
             None if first.ty().dest_fun().is_some() => ("the function ", ", and its argument "),
-            None => (
-                "what is applied is no function: ",
-                ", and its argument ",
-            ),
+            None => ("what is applied is no function: ", ", and its argument "),
             Some(Infix::Equal) => (
                 "the sides of `=` have one type, but the left side ",
                 ", and the right side ",

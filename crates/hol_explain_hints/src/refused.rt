@@ -12,7 +12,10 @@ use hol_model::Fault;
 fn in_quotes(case: &Case<'_>, message: &mut Message) {
     for at in 0..case.piece.words.len() {
         if case.piece.kind(at) == Kind::Quote {
-            if let Some(inside) = message.made(Piece::of_quote(case.teller.alloc, case.piece.quoted(at))) {
+            if let Some(inside) = message.made(Piece::of_quote(
+                case.teller.alloc,
+                case.piece.quoted(at),
+            )) {
                 if case.rule() == "INST_TYPE" {
                     unknown_type(case.teller, message, &inside, 0, true);
                 } else {

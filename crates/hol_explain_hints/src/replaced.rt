@@ -49,7 +49,9 @@ pub(crate) fn push_types(of: &Accepted<'_>, notes: &mut Message) {
         return;
     };
     for at in 0..of.told.piece.words.len() {
-        if of.told.piece.kind(at) == Kind::Quote && of.told.piece.text(at.saturating_sub(1)) == "," {
+        if of.told.piece.kind(at) == Kind::Quote
+            && of.told.piece.text(at.saturating_sub(1)) == ","
+        {
             push_absent(of, notes, at, premise);
         }
     }

@@ -82,7 +82,11 @@ fn at_term(case: &Case<'_>, message: &mut Message) {
             };
             if !is_right {
                 let lead = Text(sentence(case.fault));
-                case.say(message, found.at, &[lead, Text(", and "), shown, Text(kind)]);
+                case.say(
+                    message,
+                    found.at,
+                    &[lead, Text(", and "), shown, Text(kind)],
+                );
                 return;
             }
         }
