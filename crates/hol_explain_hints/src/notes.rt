@@ -123,7 +123,9 @@ pub fn learn(
     known.learn(alloc, piece)?;
     if let Some(goals) = goals {
         let line = told.line(alloc)?;
-        known.learn_goals(alloc, piece, goals, line.as_str())?;
+        known
+            .proof
+            .leave(alloc, piece.text(0), goals, line.as_str())?;
     }
     Ok(())
 }

@@ -470,7 +470,11 @@ impl<'a> Search<'a> {
         if self.bindings.has_set_since(choice.mark) {
             self.choices.push(choice)?;
         }
-        self.close(open, Move::Reduce)?;
+        self.moves.push(Met {
+            place: open.subgoal.place,
+            by: Move::Reduce,
+        })?;
+        self.first = open.next;
         Ok(true)
     }
 
@@ -493,7 +497,11 @@ impl<'a> Search<'a> {
             literal: entry.literal,
             base,
         };
-        self.close(open, Move::Extend(extension))?;
+        self.moves.push(Met {
+            place: open.subgoal.place,
+            by: Move::Extend(extension),
+        })?;
+        self.first = open.next;
         let first = self.subgoals.len();
         self.add_subgoals(entry.clause, base, Some(open.number), Some(entry.literal))?;
         let others = Run {
@@ -502,14 +510,6 @@ impl<'a> Search<'a> {
         };
         self.add_group(others, open.limit)?;
         Ok(true)
-    }
-
-    // Notes how a subgoal was met.
-    fn close(&mut self, open: Open, by: Move) -> Result<(), HostFail> {
-        let place = open.subgoal.place;
-        self.moves.push(Met { place, by })?;
-        self.first = open.next;
-        Ok(())
     }
 
     // The moves in the order of the literals that they meet, from left to right, those below a literal behind its own.
