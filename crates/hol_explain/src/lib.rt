@@ -6,7 +6,6 @@
 mod follow;
 mod message;
 mod notes;
-mod records;
 mod search;
 mod walk;
 

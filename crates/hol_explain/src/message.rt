@@ -3,33 +3,13 @@ ghost use Rattle.hol_script.specs.Managers.{IsManager};
 
 use crate::search::{Trial, open_goals, refused_part};
 use hol_explain_hints::{
-    Arguments, Case, Known, Message, Piece, Premise, Span, first_goal, is_looked_up, no_command,
-    of_case, of_part, plain, span_of,
+    Arguments, Case, Known, Message, Piece, Premise, Span, Teller, first_goal, is_looked_up,
+    no_command, of_case, of_part, plain, span_of,
 };
 use hol_host::Refiners;
 use hol_model::Fault;
 use hol_script::{Manager, Printed, Refused};
 use std::alloc::Global;
-
-// The stored theorem whose name stands at a place in the list.
-fn premise(
-    alloc: Global,
-    known: &Known,
-    manager: &Manager,
-    piece: &Piece<'_>,
-    at: usize,
-    message: &mut Message,
-) -> Option<Premise>
-    requires { IsManager manager.now }
-{
-    let name = piece.text(at);
-    match message.given(manager.show(alloc, name)) {
-        Some(Printed::Line(line)) => {
-            Premise::read(alloc, known, line.text, at, name.len(), message)
-        }
-        _ => None,
-    }
-}
 
 // Puts the theorems at the end that a part of a command names.
 fn push_premises(
@@ -45,7 +25,13 @@ fn push_premises(
 {
     for at in span.from..span.to {
         if is_looked_up(piece, at) {
-            let premise = premise(alloc, known, manager, piece, at, message);
+            let name = piece.text(at);
+            let premise = match message.given(manager.show(alloc, name)) {
+                Some(Printed::Line(line)) => {
+                    Premise::read(alloc, known, line.text, at, name.len(), message)
+                }
+                _ => None,
+            };
             let _pushed = message.made(premises.push(premise));
         }
     }
@@ -78,15 +64,13 @@ fn of_expression<H: Refiners>(
     requires { IsManager manager.old }
     ensures { IsManager manager.new }
 {
-    let (alloc, piece) = (trial.alloc, trial.piece);
-    let part = refused_part(trial, case.known, manager, message);
-    let arguments = arguments_in(alloc, case.known, manager, piece, part.span, message);
+    let known = case.teller.known;
+    let part = refused_part(trial, known, manager, message);
+    let arguments = arguments_in(trial.alloc, known, manager, trial.piece, part.span, message);
     let inner = Case {
-        alloc: case.alloc,
-        known: case.known,
+        teller: case.teller,
         host_names: case.host_names,
         piece: case.piece,
-        goal: case.goal,
         arguments: &arguments,
         fault: case.fault,
         row: case.row,
@@ -94,49 +78,24 @@ fn of_expression<H: Refiners>(
     of_part(&inner, &part, message);
 }
 
-// Says what is known of a case, of an `e` by its part that is refused.
-fn of_refusal<H: Refiners>(
-    trial: &Trial<'_, H>,
-    manager: &mut Manager,
-    case: &Case<'_>,
-    message: &mut Message,
-)
-    requires { IsManager manager.old }
-    ensures { IsManager manager.new }
-{
-    of_case(case, message);
-    if !message.is_empty() {
-        return;
-    }
-    if trial.piece.text(0) == "e" {
-        of_expression(trial, manager, case, message);
-    } else {
-        plain(case, message);
-    }
-}
-
-// Says what is known of a command that is refused in this state, of whose first goal this is the line.
+// Says what is known of a command that is refused in this state, of an `e` by its part that is refused.
 fn of_command<H: Refiners>(
     trial: &Trial<'_, H>,
     host_names: &[String],
-    known: &Known,
+    teller: Teller<'_>,
     manager: &mut Manager,
     refused: &Refused,
-    goal: &Piece<'_>,
     message: &mut Message,
 )
     requires { IsManager manager.old }
     ensures { IsManager manager.new }
 {
-    let alloc = trial.alloc;
-    let piece = trial.piece;
-    let arguments = arguments_in(alloc, known, manager, piece, span_of(piece), message);
+    let (alloc, piece) = (trial.alloc, trial.piece);
+    let arguments = arguments_in(alloc, teller.known, manager, piece, span_of(piece), message);
     let case = Case {
-        alloc,
-        known,
+        teller,
         host_names,
         piece,
-        goal,
         arguments: &arguments,
         fault: &refused.fault,
         row: match &refused.row {
@@ -144,7 +103,15 @@ fn of_command<H: Refiners>(
             None => None,
         },
     };
-    of_refusal(trial, manager, &case, message);
+    of_case(&case, message);
+    if !message.is_empty() {
+        return;
+    }
+    if piece.text(0) == "e" {
+        of_expression(trial, manager, &case, message);
+    } else {
+        plain(&case, message);
+    }
 }
 
 /// Says what is known of a command that is refused in this state, which stays but for what `b` can take back.
@@ -167,6 +134,11 @@ pub(crate) fn explain_command<H: Refiners>(
     let goals = open_goals(alloc, manager, message);
     let goal = first_goal(goals.as_str());
     if let Some(goal) = message.made(Piece::of_quote(alloc, goal.as_bytes())) {
-        of_command(trial, host_names, known, manager, refused, &goal, message);
+        let teller = Teller {
+            alloc,
+            known,
+            goal: &goal,
+        };
+        of_command(trial, host_names, teller, manager, refused, message);
     }
 }

@@ -2,27 +2,29 @@
 ghost use Rattle.hol_script.specs.Managers.{IsManager};
 
 use crate::message::arguments_in;
-use crate::records::Told;
 use crate::search::{Trial, open_goals, take_back};
 use hol_explain_hints::{
-    Accepted, Arguments, Known, Message, Span, command_of, count_of_goals, has_pairs,
-    next_rewriting, push_notes, push_unchanged, span_of,
+    Accepted, Known, Message, Span, Told, command_of, count_of_goals, next_rewriting, noted_span,
+    push_notes, push_unchanged,
 };
 use hol_host::Refiners;
 use hol_script::Manager;
 use hol_script::execute::execute;
 
-// The open goals behind a part of an expression, which is taken back.
+// The open goals behind the first words of an expression, up to a place, which are taken back.
 fn goals_behind<H: Refiners>(
     trial: &Trial<'_, H>,
     manager: &mut Manager,
-    span: Span,
+    to: usize,
     notes: &mut Message,
 ) -> String
     requires { IsManager manager.old }
     ensures { IsManager manager.new }
 {
-    let text = command_of(trial.alloc, trial.piece, span, notes);
+    if to <= 1 {
+        return open_goals(trial.alloc, manager, notes);
+    }
+    let text = command_of(trial.alloc, trial.piece, Span { from: 1, to }, notes);
     match execute(manager, trial.alloc, trial.host, &text) {
         Ok(_) => {
             let goals = open_goals(trial.alloc, manager, notes);
@@ -31,26 +33,6 @@ fn goals_behind<H: Refiners>(
         }
         Err(_) => String::new(trial.alloc),
     }
-}
-
-// The open goals where a part of an expression begins to refine them.
-fn goals_before<H: Refiners>(
-    trial: &Trial<'_, H>,
-    manager: &mut Manager,
-    part: Span,
-    notes: &mut Message,
-) -> String
-    requires { IsManager manager.old }
-    ensures { IsManager manager.new }
-{
-    if part.from <= 1 {
-        return open_goals(trial.alloc, manager, notes);
-    }
-    let front = Span {
-        from: 1,
-        to: part.from.saturating_sub(1),
-    };
-    goals_behind(trial, manager, front, notes)
 }
 
 // Whether a part of an expression refines goals, and leaves each as it is.
@@ -64,12 +46,8 @@ fn is_unchanged<H: Refiners>(
     ensures { IsManager manager.new }
 {
     let first = open_goals(trial.alloc, manager, notes);
-    let before = goals_before(trial, manager, part, notes);
-    let whole = Span {
-        from: 1,
-        to: part.to,
-    };
-    let behind = goals_behind(trial, manager, whole, notes);
+    let before = goals_behind(trial, manager, part.from.saturating_sub(1), notes);
+    let behind = goals_behind(trial, manager, part.to, notes);
     let is_refined = count_of_goals(before.as_str()) >= count_of_goals(first.as_str());
     is_refined && before.as_str() == behind.as_str()
 }
@@ -114,23 +92,6 @@ fn unchanged_in<H: Refiners>(
     found
 }
 
-// The arguments of an accepted command, where notes want them.
-fn arguments<H: Refiners>(
-    trial: &Trial<'_, H>,
-    known: &Known,
-    manager: &Manager,
-    notes: &mut Message,
-) -> Arguments
-    requires { IsManager manager.now }
-{
-    let piece = trial.piece;
-    let mut span = span_of(piece);
-    if !has_pairs(piece) {
-        span.from = span.to;
-    }
-    arguments_in(trial.alloc, known, manager, piece, span, notes)
-}
-
 /// Puts the lines of what is noted of a command at the end that was accepted, before its names are known.
 pub(crate) fn note_command<H: Refiners>(
     trial: &Trial<'_, H>,
@@ -142,13 +103,12 @@ pub(crate) fn note_command<H: Refiners>(
     requires { IsManager manager.old }
     ensures { IsManager manager.new }
 {
-    let arguments = arguments(trial, known, manager, notes);
+    let (alloc, piece) = (trial.alloc, trial.piece);
+    let arguments = arguments_in(alloc, known, manager, piece, noted_span(piece), notes);
     let accepted = Accepted {
-        alloc: trial.alloc,
+        alloc,
         known,
-        origins: told.origins,
-        piece: trial.piece,
-        place: told.place,
+        told,
         arguments: &arguments,
     };
     push_notes(&accepted, notes);

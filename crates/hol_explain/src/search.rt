@@ -2,8 +2,8 @@
 ghost use Rattle.hol_script.specs.Managers.{IsManager};
 
 use hol_explain_hints::{
-    Known, Message, Part, Piece, Span, command_of, count_of_goals, first_member, has_misfit,
-    next_joint, next_member, unwrapped,
+    Known, Message, Part, Piece, Span, command_of, count_of_goals, has_misfit, next_joint,
+    next_member, unwrapped,
 };
 use hol_host::Refiners;
 use hol_script::execute::execute;
@@ -38,30 +38,8 @@ pub(crate) fn open_goals(alloc: Global, manager: &Manager, message: &mut Message
     }
 }
 
-// How many goals are open.
-fn count(alloc: Global, manager: &Manager, message: &mut Message) -> usize
-    requires { IsManager manager.now }
-{
-    let goals = open_goals(alloc, manager, message);
-    count_of_goals(goals.as_str())
-}
-
-// Whether a command that leaves goals is accepted; it is taken back.
-fn is_accepted<H: Refiners>(trial: &Trial<'_, H>, manager: &mut Manager, text: &[u8]) -> bool
-    requires { IsManager manager.old }
-    ensures { IsManager manager.new }
-{
-    match execute(manager, trial.alloc, trial.host, text) {
-        Ok(_) => {
-            let _undone = execute(manager, trial.alloc, trial.host, b"b");
-            true
-        }
-        Err(_) => false,
-    }
-}
-
 // Whether the refiner of a part is accepted at the first goal; what it does is taken back.
-fn is_part_accepted<H: Refiners>(
+fn is_accepted<H: Refiners>(
     trial: &Trial<'_, H>,
     manager: &mut Manager,
     span: Span,
@@ -71,7 +49,13 @@ fn is_part_accepted<H: Refiners>(
     ensures { IsManager manager.new }
 {
     let text = command_of(trial.alloc, trial.piece, span, message);
-    is_accepted(trial, manager, &text)
+    match execute(manager, trial.alloc, trial.host, &text) {
+        Ok(_) => {
+            let _undone = execute(manager, trial.alloc, trial.host, b"b");
+            true
+        }
+        Err(_) => false,
+    }
 }
 
 // The place in the list of the first joint up to which a part is refused, and of the one before it; the end of the part, where it
@@ -95,7 +79,7 @@ fn refused_joint<H: Refiners>(
             from: span.from,
             to: joint,
         };
-        if !is_part_accepted(trial, manager, front, message) {
+        if !is_accepted(trial, manager, front, message) {
             break;
         }
         accepted = Some(joint);
@@ -116,9 +100,9 @@ fn refused_member<H: Refiners>(
     ensures { IsManager manager.new }
 {
     let mut steps = 1usize;
-    let mut member = first_member(trial.piece, behind);
+    let mut member = next_member(trial.piece, behind, None);
     for _ in 0..subgoals {
-        if !is_part_accepted(trial, manager, member, message) {
+        if !is_accepted(trial, manager, member, message) {
             return Inside {
                 span: member,
                 subgoals,
@@ -128,7 +112,7 @@ fn refused_member<H: Refiners>(
         }
         let _turned = execute(manager, trial.alloc, trial.host, b"r 1");
         steps = steps.saturating_add(1);
-        member = next_member(trial.piece, behind, member);
+        member = next_member(trial.piece, behind, Some(member));
     }
     Inside {
         span: behind,
@@ -149,11 +133,14 @@ fn behind_joint<H: Refiners>(
     requires { IsManager manager.old }
     ensures { IsManager manager.new }
 {
-    let before = count(trial.alloc, manager, message);
+    let before = open_goals(trial.alloc, manager, message);
     let text = command_of(trial.alloc, trial.piece, front, message);
     let _done = execute(manager, trial.alloc, trial.host, &text);
-    let after = count(trial.alloc, manager, message);
-    let subgoals = after.saturating_add(1).saturating_sub(before);
+    let after = open_goals(trial.alloc, manager, message);
+    let done = count_of_goals(before.as_str());
+    let subgoals = count_of_goals(after.as_str())
+        .saturating_add(1)
+        .saturating_sub(done);
     let behind = Span { from: front.to, to };
     if has_misfit(trial.piece, behind, subgoals) {
         Inside {

@@ -5,12 +5,11 @@ ghost use Rattle.hol_script.specs.Managers.{IsManager};
 
 use crate::message::explain_command;
 use crate::notes::note_command;
-use crate::records::{Told, push_accepted, push_refused};
 use crate::search::Trial;
 use hol_device_io::write_all;
 use hol_explain_hints::{
-    Known, Message, NoMemory, Origin, Piece, Place, between, first_kept, located, push_refusal,
-    unended,
+    Answer, Known, Message, Origin, Piece, Place, Told, learn, miss, push_accepted, push_refusal,
+    push_refused, unended,
 };
 use hol_host::Refiners;
 use hol_model::{Fault, Sink};
@@ -47,28 +46,9 @@ impl<'s, H> Walk<'s, H> {
             makes_records: false,
         }
     }
-
-    // With what parts of a command are tried.
-    fn trial<'a>(&'a self, piece: &'a Piece<'a>) -> Trial<'a, H> {
-        Trial {
-            alloc: self.alloc,
-            host: self.host,
-            piece,
-        }
-    }
-
-    // A command, as records tell it.
-    fn told<'a>(&'a self, piece: &'a Piece<'a>, place: &Place, mark: &'a [u8]) -> Told<'a> {
-        Told {
-            origins: self.script.origins,
-            piece,
-            place: *place,
-            mark,
-        }
-    }
 }
 
-// Puts the line of a refusal at the end, and what is said of it.
+// Puts what is said of a refused command at the end, behind the line of the refusal or as a record.
 fn tell_refused<H>(
     walk: &Walk<'_, H>,
     told: &Told<'_>,
@@ -76,13 +56,16 @@ fn tell_refused<H>(
     message: &Message,
     lines: &mut Message,
 ) {
-    if walk.makes_records {
-        push_refused(walk.alloc, told, refused, message, lines);
+    let fault = &refused.fault;
+    if !walk.makes_records {
+        push_refusal(walk.alloc, told, fault, message, lines);
         return;
     }
-    let place = told.place.behind(between(told.piece.bytes, 0, message.at));
-    let (file, here) = located(told.origins, &place);
-    push_refusal(walk.alloc, lines, file, &here, &refused.fault, message);
+    let row = match &refused.row {
+        Some(row) => row.as_str(),
+        None => "",
+    };
+    push_refused(walk.alloc, told, (fault, row), message, lines);
 }
 
 // Explains a refused command.
@@ -97,7 +80,11 @@ fn explain_refused<H: Refiners>(
     requires { IsManager manager.old }
     ensures { IsManager manager.new }
 {
-    let trial = walk.trial(told.piece);
+    let trial = Trial {
+        alloc: walk.alloc,
+        host: walk.host,
+        piece: told.piece,
+    };
     let host_names = walk.script.host_names;
     let mut message = Message::new(walk.alloc);
     explain_command(&trial, host_names, known, manager, refused, &mut message);
@@ -116,61 +103,21 @@ fn tell_accepted<H: Refiners>(
     requires { IsManager manager.old }
     ensures { IsManager manager.new }
 {
-    if walk.makes_records {
-        push_accepted(walk.alloc, told, printed, lines);
-    } else {
-        note_command(&walk.trial(told.piece), told, known, manager, lines);
+    if !walk.makes_records {
+        let trial = Trial {
+            alloc: walk.alloc,
+            host: walk.host,
+            piece: told.piece,
+        };
+        note_command(&trial, told, known, manager, lines);
+        return;
     }
-}
-
-// What is known behind a command that is accepted, which stands behind a place.
-fn learn(
-    alloc: Global,
-    origins: &[Origin<'_>],
-    known: &mut Known,
-    piece: &Piece<'_>,
-    place: &Place,
-    printed: &Printed,
-) -> Result<(), NoMemory> {
-    if let Some(at) = first_kept(known, piece) {
-        known.forget_kept(piece.text(at));
-    }
-    known.learn(alloc, piece)?;
-    if let Printed::Goals(goals) = printed {
-        let line = line_of(alloc, origins, piece, place)?;
-        known.learn_goals(alloc, piece, goals.as_str(), line.as_str())?;
-    }
-    Ok(())
-}
-
-// The line of a command that stands behind a place, and its file, where there are several.
-fn line_of(
-    alloc: Global,
-    origins: &[Origin<'_>],
-    piece: &Piece<'_>,
-    place: &Place,
-) -> Result<String, NoMemory> {
-    let begin = place.behind(between(piece.bytes, 0, piece.start(0)));
-    let (file, here) = located(origins, &begin);
-    let line = here.line;
-    let (lead, file, end) = if origins.len() > 1 {
-        (" of `", file, "`")
-    } else {
-        ("", "", "")
+    let (text, shows_goals) = match printed {
+        Printed::Nothing => ("", false),
+        Printed::Line(line) => (line.text.as_str(), false),
+        Printed::Goals(text) => (text.as_str(), true),
     };
-    Ok(format!(in alloc; "line {line}{lead}{file}{end}")?)
-}
-
-// The names of a refused command that stands behind a place are told by its line.
-fn miss(
-    alloc: Global,
-    origins: &[Origin<'_>],
-    known: &mut Known,
-    piece: &Piece<'_>,
-    place: &Place,
-) -> Result<(), NoMemory> {
-    let line = line_of(alloc, origins, piece, place)?;
-    known.miss(alloc, piece, line.as_str())
+    push_accepted(walk.alloc, told, Answer { text, shows_goals }, lines);
 }
 
 // Runs a command, and puts what is told of it at the end. Answers whether it was refused.
@@ -178,43 +125,28 @@ fn answer<H: Refiners>(
     walk: &Walk<'_, H>,
     known: &mut Known,
     manager: &mut Manager,
-    piece: &Piece<'_>,
-    place: &Place,
+    told: &Told<'_>,
     lines: &mut Message,
 ) -> bool
     requires { IsManager manager.old }
     ensures { IsManager manager.new }
 {
-    let (alloc, origins) = (walk.alloc, walk.script.origins);
-    let told = walk.told(piece, place, b";;");
-    match execute(manager, alloc, walk.host, piece.bytes) {
+    let alloc = walk.alloc;
+    match execute(manager, alloc, walk.host, told.piece.bytes) {
         Ok(printed) => {
-            tell_accepted(walk, known, manager, &told, &printed, lines);
-            let _learnt = lines.made(learn(alloc, origins, known, piece, place, &printed));
+            tell_accepted(walk, known, manager, told, &printed, lines);
+            let goals = match &printed {
+                Printed::Goals(text) => Some(text.as_str()),
+                _ => None,
+            };
+            let _learnt = lines.made(learn(alloc, known, told, goals));
             false
         }
         Err(refused) => {
-            explain_refused(walk, known, manager, &told, &refused, lines);
-            let _missed = lines.made(miss(alloc, origins, known, piece, place));
+            explain_refused(walk, known, manager, told, &refused, lines);
+            let _missed = lines.made(miss(alloc, known, told));
             true
         }
-    }
-}
-
-// Explains a command that is refused when a script begins.
-fn explain_begin<H: Refiners>(
-    walk: &Walk<'_, H>,
-    piece: &Piece<'_>,
-    refused: &Refused,
-    lines: &mut Message,
-) {
-    let told = walk.told(piece, &Place::start(), b";;");
-    let Some(known) = lines.made(Known::new(walk.alloc)) else {
-        return;
-    };
-    match Manager::new(walk.alloc) {
-        Ok(mut manager) => explain_refused(walk, &known, &mut manager, &told, refused, lines),
-        Err(fault) => lines.push_made(Err(fault)),
     }
 }
 
@@ -224,8 +156,16 @@ fn explain_first<H: Refiners>(walk: &Walk<'_, H>, refused: &Refused, lines: &mut
         Some((command, _)) => command,
         None => walk.script.text,
     };
-    if let Some(piece) = lines.made(Piece::new(walk.alloc, command)) {
-        explain_begin(walk, &piece, refused, lines);
+    let Some(piece) = lines.made(Piece::new(walk.alloc, command)) else {
+        return;
+    };
+    let Some(known) = lines.made(Known::new(walk.alloc)) else {
+        return;
+    };
+    let told = Told::new(walk.script.origins, &piece, Place::start(), b";;");
+    match Manager::new(walk.alloc) {
+        Ok(mut manager) => explain_refused(walk, &known, &mut manager, &told, refused, lines),
+        Err(fault) => lines.push_made(Err(fault)),
     }
 }
 
@@ -263,18 +203,12 @@ pub(crate) fn explain_piece<W: Sink, H: Refiners>(
         return Err(Fault::Memory);
     };
     let mut lines = Message::new(walk.alloc);
-    let is_refused = answer(walk, known, manager, &piece, place, &mut lines);
+    let told = Told::new(walk.script.origins, &piece, *place, b";;");
+    let is_refused = answer(walk, known, manager, &told, &mut lines);
     match write_lines(writer, &lines) {
         Ok(()) => Ok(is_refused),
         Err(fault) => Err(fault),
     }
-}
-
-// Tells a rest without a mark behind it, which begins at a place.
-fn tell_unended<H>(walk: &Walk<'_, H>, rest: &Piece<'_>, place: &Place, lines: &mut Message) {
-    let told = walk.told(rest, place, b"");
-    let message = unended(walk.alloc, rest.start(0));
-    tell_refused(walk, &told, &Refused::plain(Fault::Syntax), &message, lines);
 }
 
 /// Writes what is told of a rest without a mark behind it, where it holds more than white space. Answers whether it does.
@@ -294,7 +228,15 @@ pub(crate) fn explain_rest<W: Sink, H: Refiners>(
         return Err(Fault::Memory);
     };
     let mut lines = Message::new(walk.alloc);
-    tell_unended(walk, &rest, place, &mut lines);
+    let told = Told::new(walk.script.origins, &rest, *place, b"");
+    let message = unended(walk.alloc, rest.start(0));
+    tell_refused(
+        walk,
+        &told,
+        &Refused::plain(Fault::Syntax),
+        &message,
+        &mut lines,
+    );
     match write_lines(writer, &lines) {
         Ok(()) => Ok(true),
         Err(fault) => Err(fault),

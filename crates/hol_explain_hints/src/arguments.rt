@@ -1,7 +1,6 @@
 // The terms that a command quotes, and the stored theorems that it names.
 use crate::names::is_theorem_place;
-use crate::span::Span;
-use hol_explain_words::{Kind, Known, Message, Piece, between, text_of};
+use hol_explain_words::{Kind, Known, Message, Piece, Span, between, text_of};
 use hol_syntax::{read_sequent, read_term};
 use hol_terms::Term;
 use std::alloc::Global;
@@ -86,37 +85,6 @@ pub struct Arguments {
     pub theorems: Vec<Option<Premise>>,
 }
 
-// The term that the word at a place in the list quotes.
-fn quoted_at(
-    alloc: Global,
-    known: &Known,
-    piece: &Piece<'_>,
-    at: usize,
-    message: &mut Message,
-) -> Option<Quotation> {
-    match message.given(read_term(alloc, &known.scope, piece.quoted(at))) {
-        Some(term) => Some(Quotation { at, term }),
-        None => None,
-    }
-}
-
-// Puts the terms at the end that a part of a command quotes.
-fn push_terms(
-    alloc: Global,
-    known: &Known,
-    piece: &Piece<'_>,
-    span: Span,
-    terms: &mut Vec<Option<Quotation>>,
-    message: &mut Message,
-) {
-    for at in span.from..span.to {
-        if piece.kind(at) == Kind::Quote {
-            let quoted = quoted_at(alloc, known, piece, at, message);
-            let _pushed = message.made(terms.push(quoted));
-        }
-    }
-}
-
 impl Arguments {
     /// The terms that a part of a command quotes, and no theorem yet.
     pub fn new(
@@ -126,11 +94,60 @@ impl Arguments {
         span: Span,
         message: &mut Message,
     ) -> Arguments {
-        let mut arguments = Arguments {
-            terms: Vec::new(alloc),
+        let mut terms = Vec::new(alloc);
+        for at in span.from..span.to {
+            if piece.kind(at) == Kind::Quote {
+                let read = read_term(alloc, &known.scope, piece.quoted(at));
+                let quoted = match message.given(read) {
+                    Some(term) => Some(Quotation { at, term }),
+                    None => None,
+                };
+                let _pushed = message.made(terms.push(quoted));
+            }
+        }
+        Arguments {
+            terms,
             theorems: Vec::new(alloc),
-        };
-        push_terms(alloc, known, piece, span, &mut arguments.terms, message);
-        arguments
+        }
+    }
+
+    /// The argument of this number among those between backquotes, where it is a term.
+    pub(crate) fn term(&self, number: usize) -> Option<&Quotation> {
+        match self.terms.get(number) {
+            Some(Some(quotation)) => Some(quotation),
+            _ => None,
+        }
+    }
+
+    /// The argument of this number among the names, where it names a theorem.
+    pub(crate) fn theorem(&self, number: usize) -> Option<&Premise> {
+        match self.theorems.get(number) {
+            Some(Some(premise)) => Some(premise),
+            _ => None,
+        }
+    }
+
+    /// The term that the word at a place in the list quotes.
+    pub(crate) fn term_at(&self, at: usize) -> Option<&Quotation> {
+        for number in 0..self.terms.len() {
+            if let Some(quotation) = self.term(number) {
+                if quotation.at == at {
+                    return Some(quotation);
+                }
+            }
+        }
+        None
+    }
+
+    /// The theorem that the word at a place in the list names.
+    pub(crate) fn theorem_at(&self, at: usize) -> Option<&Premise> {
+        for number in 0..self.theorems.len() {
+            if let Some(premise) = self.theorem(number) {
+                if premise.at == at {
+                    return Some(premise);
+                }
+            }
+        }
+        None
     }
 }

@@ -2,9 +2,8 @@
 use crate::case::Case;
 use crate::said::Said::{Quoted, Shown, Text};
 use crate::shapes::wanted;
-use crate::span::{Span, next_outside};
 use crate::taken::push_given;
-use hol_explain_words::{Message, Piece, between, end_of_conversion, text_of};
+use hol_explain_words::{Message, Piece, Span, between, end_of_conversion, next_outside, text_of};
 use hol_terms::{Parts, Term};
 
 // What joins two conversions.
@@ -18,12 +17,6 @@ fn part_for<'a>(word: &str, term: &'a Term) -> Option<&'a Term> {
         ("ABS_CONV", Parts::Abstraction(_, _, body)) => Some(body),
         _ => None,
     }
-}
-
-// The text of a conversion.
-fn text_within<'a>(piece: &'a Piece<'_>, span: Span) -> &'a str {
-    let end = piece.word(span.to.saturating_sub(1)).end;
-    text_of(between(piece.bytes, piece.start(span.from), end))
 }
 
 // A conversion, and the term that it is applied to.
@@ -55,23 +48,6 @@ fn innermost<'a>(piece: &Piece<'_>, whole: Applied<'a>) -> Applied<'a> {
     applied
 }
 
-// Puts a conversion at the end, what it wants, and the term that it is applied to.
-fn push_applied<'a>(case: &Case<'a>, message: &mut Message, applied: Applied<'a>) {
-    let (lead, wanted, joint) = match wanted(case.piece.text(applied.span.from)) {
-        Some(wanted) => (" wants ", wanted, ", and is applied to "),
-        None => ("", "", " is applied to "),
-    };
-    let parts = [
-        Text(": "),
-        Quoted(text_within(case.piece, applied.span)),
-        Text(lead),
-        Text(wanted),
-        Text(joint),
-        Shown(applied.term),
-    ];
-    case.push(message, &parts);
-}
-
 /// Puts the conversion that does not apply at the end, what it wants, and the term that it is applied to: that of the expression
 /// from a word on, or what `RAND_CONV`, `RATOR_CONV` and `ABS_CONV` make of both. The message is on that conversion then.
 pub(crate) fn push_conversion<'a>(
@@ -80,10 +56,25 @@ pub(crate) fn push_conversion<'a>(
     term: &'a Term,
     message: &mut Message,
 ) {
-    let to = end_of_conversion(case.alloc, case.piece, from, message);
+    let piece = case.piece;
+    let to = end_of_conversion(case.teller.alloc, piece, from, message);
     let span = Span { from, to };
-    let applied = innermost(case.piece, Applied { span, term });
-    push_applied(case, message, applied);
-    message.at = case.piece.start(applied.span.from);
-    push_given(case, applied.span.from, ", and ", message);
+    let Applied { span, term } = innermost(piece, Applied { span, term });
+    let (lead, wanted, joint) = match wanted(piece.text(span.from)) {
+        Some(wanted) => (" wants ", wanted, ", and is applied to "),
+        None => ("", "", " is applied to "),
+    };
+    let end = piece.word(span.to.saturating_sub(1)).end;
+    let conversion = text_of(between(piece.bytes, piece.start(span.from), end));
+    let parts = [
+        Text(": "),
+        Quoted(conversion),
+        Text(lead),
+        Text(wanted),
+        Text(joint),
+        Shown(term),
+    ];
+    case.teller.push(message, &parts);
+    message.at = piece.start(span.from);
+    push_given(case, span.from, ", and ", message);
 }

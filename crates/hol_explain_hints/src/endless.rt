@@ -53,50 +53,39 @@ fn feeds_itself(alloc: Global, fixed: &[Term], formula: &Term, message: &mut Mes
     }
 }
 
-// Puts the variables at the end for which an equation of a theorem puts nothing.
-fn push_fixed(alloc: Global, premise: &Premise, fixed: &mut Vec<Term>, message: &mut Message) {
+// Whether an equation of a theorem, for whose hypotheses' variables it puts nothing, matches a part of what it makes.
+fn is_endless(alloc: Global, premise: &Premise, message: &mut Message) -> bool {
+    let mut fixed = Vec::new(alloc);
     for hypothesis in &premise.hypotheses {
         if let Some(mut variables) = message.given(frees(alloc, hypothesis)) {
             let _appended = message.made(fixed.append(&mut variables));
         }
     }
-}
-
-// Whether an equation of a theorem matches a part of what it makes.
-fn is_endless(alloc: Global, premise: &Premise, message: &mut Message) -> bool {
-    let mut fixed = Vec::new(alloc);
-    push_fixed(alloc, premise, &mut fixed, message);
     feeds_itself(alloc, &fixed, &premise.conclusion, message)
 }
 
-// The first theorem that was given, by which rewriting may have no end.
-fn first_endless<'a>(case: &Case<'a>, message: &mut Message) -> Option<&'a Premise> {
-    for number in 0..case.arguments.theorems.len() {
-        if let Some(premise) = case.theorem(number) {
-            if is_endless(case.alloc, premise, message) {
-                return Some(premise);
-            }
-        }
-    }
-    None
-}
-
-/// Puts the theorem at the end by which a `REWRITE_TAC` may have no end, where it passes a limit.
+/// Puts the first theorem at the end by which a `REWRITE_TAC` may have no end, where it passes a limit.
 pub(crate) fn push_endless(case: &Case<'_>, message: &mut Message) {
     if !matches!(case.fault, Fault::StepLimit | Fault::TooLarge) {
         return;
     }
-    let Some(premise) = first_endless(case, message) else {
-        return;
-    };
-    let name = premise.name();
-    let parts = [
-        Text("; "),
-        Quoted(name),
-        Text(" applies to what it makes, as its left side matches a part of its right side: "),
-        Text("`CONV_TAC (ONCE_DEPTH_CONV (REWR_CONV "),
-        Text(name),
-        Text("))` uses it once"),
-    ];
-    case.push(message, &parts);
+    for number in 0..case.arguments.theorems.len() {
+        if let Some(premise) = case.arguments.theorem(number) {
+            if is_endless(case.teller.alloc, premise, message) {
+                let name = premise.name();
+                let parts = [
+                    Text("; "),
+                    Quoted(name),
+                    Text(
+                        " applies to what it makes, as its left side matches a part of its right side: ",
+                    ),
+                    Text("`CONV_TAC (ONCE_DEPTH_CONV (REWR_CONV "),
+                    Text(name),
+                    Text("))` uses it once"),
+                ];
+                case.teller.push(message, &parts);
+                return;
+            }
+        }
+    }
 }

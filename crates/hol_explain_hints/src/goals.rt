@@ -4,9 +4,8 @@ use crate::conversions::push_conversion;
 use crate::endless::push_endless;
 use crate::said::Said::{Bare, Quoted, Text, Typed};
 use crate::shapes::wanted;
-use crate::span::{Span, next_outside};
 use crate::taken::{push_given, push_untaken};
-use hol_explain_words::{Known, Message, Piece, is_refiner, line_of, sentence};
+use hol_explain_words::{Known, Message, Piece, Span, is_refiner, line_of, next_outside, sentence};
 use hol_model::Fault;
 use hol_syntax::read_sequent;
 use hol_taut_formulas::atoms;
@@ -73,7 +72,7 @@ impl Part {
 
 /// Says what is wrong with a `goal` whose term is no formula.
 pub(crate) fn at_new_goal(case: &Case<'_>, message: &mut Message) {
-    match case.term(0) {
+    match case.arguments.term(0) {
         Some(found) if *case.fault == Fault::NotBool => {
             let parts = [
                 Text("a goal is a formula, of type `bool`, and "),
@@ -95,7 +94,7 @@ fn push_wanted<'a>(
 ) {
     let word = case.piece.text(span.from);
     let parts = [Text(words.0), Quoted(word), Text(" wants "), Text(words.1)];
-    case.push(message, &parts);
+    case.teller.push(message, &parts);
     push_given(case, span.from, ", ", message);
     match &part.goal {
         Some((assumptions, conclusion)) if *case.fault == Fault::RefineFails => {
@@ -122,41 +121,29 @@ fn push_failed<'a>(case: &Case<'a>, from: usize, lead: &'a str, message: &mut Me
         Text(" fails here"),
         Text(behind),
     ];
-    case.push(message, &parts);
+    case.teller.push(message, &parts);
 }
 
-// Puts what one of the alternatives of a part wants at the end, or that it fails; whether something is known of it.
-fn push_alternative(
-    case: &Case<'_>,
-    part: &Part,
-    span: Span,
-    is_first: bool,
-    message: &mut Message,
-) -> bool {
-    let lead = if is_first { ": " } else { "; " };
-    let word = case.piece.text(span.from);
-    if word == "HOST" {
-        push_failed(case, span.from, lead, message);
-        return true;
-    }
-    match wanted(word) {
-        Some(wanted) => {
-            push_wanted(case, part, span, (lead, wanted), message);
-            true
-        }
-        None => false,
-    }
-}
-
-// Puts what the alternatives of a part want at the end, a part without alternatives being its only one.
+// Puts what the alternatives of a part want at the end, or that they fail, a part without alternatives being its only one.
 fn push_alternatives(case: &Case<'_>, part: &Part, message: &mut Message) {
-    let mut is_first = true;
+    let mut lead = ": ";
     let mut from = part.span.from;
     let to = part.span.to;
     for _ in 0..case.piece.words.len() {
         let joint = next_outside(case.piece, Span { from, to }, ALTERNATIVES);
-        if push_alternative(case, part, Span { from, to: joint }, is_first, message) {
-            is_first = false;
+        let word = case.piece.text(from);
+        if word == "HOST" {
+            push_failed(case, from, lead, message);
+            lead = "; ";
+        } else if let Some(wanted) = wanted(word) {
+            push_wanted(
+                case,
+                part,
+                Span { from, to: joint },
+                (lead, wanted),
+                message,
+            );
+            lead = "; ";
         }
         if joint >= to {
             break;
@@ -165,43 +152,35 @@ fn push_alternatives(case: &Case<'_>, part: &Part, message: &mut Message) {
     }
 }
 
-// Puts values at the end, each with its atom.
-fn push_values(case: &Case<'_>, atoms: &[Term], row: &[bool], message: &mut Message) {
+// Puts the row of values at the end that makes a formula false, each with its atom.
+fn push_row(case: &Case<'_>, formula: &Term, row: &[bool], message: &mut Message) {
+    let Some(atoms) = message.given(atoms(case.teller.alloc, formula)) else {
+        return;
+    };
     for at in 0..atoms.len().min(row.len()) {
         let lead = if at == 0 { ": " } else { ", " };
         let value = if row[at] { "=T" } else { "=F" };
-        case.push(message, &[Text(lead), Bare(&atoms[at]), Text(value)]);
-    }
-}
-
-// Puts the row of values at the end that makes a formula false.
-fn push_row(case: &Case<'_>, formula: &Term, row: &[bool], message: &mut Message) {
-    if let Some(atoms) = message.given(atoms(case.alloc, formula)) {
-        push_values(case, &atoms, row, message);
-    }
-}
-
-// Puts that `TAUT_TAC` does not see assumptions at the end, where there are some.
-fn push_unseen(case: &Case<'_>, from: usize, assumptions: &[Term], message: &mut Message) {
-    if !assumptions.is_empty() && case.piece.text(from) == "TAUT_TAC" {
-        message.push_str(UNSEEN);
+        case.teller
+            .push(message, &[Text(lead), Bare(&atoms[at]), Text(value)]);
     }
 }
 
 // Puts what a refiner without parts wants at the end, and what stands there. The message is on the word in question then.
 fn push_reason(case: &Case<'_>, from: usize, goal: (&[Term], &Term), message: &mut Message) {
     let (assumptions, conclusion) = goal;
+    let word = case.piece.text(from);
     let inside = from.saturating_add(1);
-    match (case.piece.text(from), case.fault, case.term_at(inside)) {
+    match (word, case.fault, case.arguments.term_at(inside)) {
         ("CONV_TAC", _, _) => push_conversion(case, inside, conclusion, message),
         ("REWRITE_TAC", _, _) => push_endless(case, message),
         (_, Fault::NotTautology { row, .. }, _) => {
             push_row(case, conclusion, row, message);
-            push_unseen(case, from, assumptions, message);
+            if !assumptions.is_empty() && word == "TAUT_TAC" {
+                message.push_str(UNSEEN);
+            }
         }
         ("EXISTS_TAC", _, Some(witness)) => {
-            case.teller()
-                .push_misfit(message, conclusion, &witness.term);
+            case.teller.push_misfit(message, conclusion, &witness.term);
         }
         _ => {}
     }
@@ -212,33 +191,26 @@ pub(crate) fn has_alternatives(piece: &Piece<'_>, span: Span) -> bool {
     next_outside(piece, span, ALTERNATIVES) < span.to
 }
 
-// Whether a part is a refiner without parts.
-fn is_leaf(case: &Case<'_>, span: Span) -> bool {
-    !has_alternatives(case.piece, span) && is_refiner(case.piece.text(span.from))
-}
-
-// Puts what is known of a refused part at the end.
-fn push_part(case: &Case<'_>, part: &Part, message: &mut Message) {
+/// Says what is known of a part of a refiner expression that is refused: what is wanted there, and its first goal.
+pub fn of_part(case: &Case<'_>, part: &Part, message: &mut Message) {
+    let from = part.span.from;
+    case.say(message, from, &[Text(sentence(case.fault))]);
+    let is_leaf = !has_alternatives(case.piece, part.span) && is_refiner(case.piece.text(from));
     match (case.fault, &part.goal) {
         (Fault::LengthMismatch, _) => {
             let subgoals = part.subgoals;
-            message.push_made(format!(in case.alloc; "; the number of subgoals is {subgoals}"));
+            message.push_made(format!(in case.teller.alloc;
+                "; the number of subgoals is {subgoals}"
+            ));
         }
         (Fault::BadShape | Fault::RefineFails, _) => push_alternatives(case, part, message),
-        (_, Some((assumptions, conclusion))) if is_leaf(case, part.span) => {
-            let goal = (assumptions.as_slice(), conclusion);
-            push_reason(case, part.span.from, goal, message);
+        (_, Some((assumptions, conclusion))) if is_leaf => {
+            push_reason(case, from, (assumptions.as_slice(), conclusion), message);
         }
         _ => {}
     }
-}
-
-/// Says what is known of a part of a refiner expression that is refused: what is wanted there, and its first goal.
-pub fn of_part(case: &Case<'_>, part: &Part, message: &mut Message) {
-    case.say(message, part.span.from, &[Text(sentence(case.fault))]);
-    push_part(case, part, message);
     let goal = first_goal(part.goals.as_str());
     if !goal.is_empty() {
-        case.push(message, &[Text("; the first goal there is "), Quoted(goal)]);
+        case.teller.push(message, &[Text("; the first goal there is "), Quoted(goal)]);
     }
 }

@@ -3,13 +3,8 @@ use crate::case::Case;
 use crate::said::Said::{Quoted, Text};
 use crate::said::Teller;
 use hol_explain_words::{
-    Kind, Known, Message, Piece, Unknown, is_among, is_before_theorem, line_of_pair,
+    Kind, Known, Message, Piece, Unknown, is_among, is_before_theorem, line_of_pair, type_depth,
 };
-
-// Whether the name at a place in the list is that of a host's function.
-fn is_host_place(piece: &Piece<'_>, at: usize) -> bool {
-    at > 0 && piece.text(at.saturating_sub(1)) == "HOST"
-}
 
 // The last word before a place in the list that is no part of a list of names.
 fn word_before_list(piece: &Piece<'_>, at: usize) -> usize {
@@ -41,8 +36,8 @@ pub(crate) fn is_theorem_place(piece: &Piece<'_>, at: usize) -> bool {
 
 // The name at a place in the list, where it is that of a theorem or of a host's function and is unknown.
 fn unknown_at<'a>(case: &Case<'a>, at: usize) -> Option<Unknown<'a>> {
-    let known = case.known;
-    let (said, names, lost) = if is_host_place(case.piece, at) {
+    let known = case.teller.known;
+    let (said, names, lost) = if at > 0 && case.piece.text(at.saturating_sub(1)) == "HOST" {
         (
             "the host has no function of this kind under",
             case.host_names,
@@ -71,48 +66,16 @@ fn unknown_at<'a>(case: &Case<'a>, at: usize) -> Option<Unknown<'a>> {
     })
 }
 
-// The first name of a theorem or of a host's function that is unknown, and its place in the list.
-fn first_unknown<'a>(case: &Case<'a>) -> Option<(usize, Unknown<'a>)> {
+/// Says the first name of a theorem or of a host's function that is unknown.
+pub(crate) fn in_names(case: &Case<'_>, message: &mut Message) {
     for at in 1..case.piece.words.len() {
         if case.piece.kind(at) == Kind::Name {
             if let Some(unknown) = unknown_at(case, at) {
-                return Some((at, unknown));
+                message.say_unknown(case.teller.alloc, case.piece.start(at), &unknown);
+                return;
             }
         }
     }
-    None
-}
-
-/// Says the first name of a theorem or of a host's function that is unknown.
-pub(crate) fn in_names(case: &Case<'_>, message: &mut Message) {
-    if let Some((at, unknown)) = first_unknown(case) {
-        message.say_unknown(case.alloc, case.piece.start(at), &unknown);
-    }
-}
-
-/// How many parentheses are open in a type behind a word, with one for the colon before it; none outside of types.
-pub(crate) fn type_depth(before: usize, word: &str) -> usize {
-    match word {
-        ":" if before == 0 => 1,
-        "(" if before > 0 => before.saturating_add(1),
-        ")" if before > 1 => before.saturating_sub(1),
-        ")" | "]" | "." => 0,
-        _ => before,
-    }
-}
-
-// The place of the first name in the types of a text that stands for none, from a word on.
-fn first_untyped(known: &Known, piece: &Piece<'_>, from: usize, in_type: bool) -> Option<usize> {
-    let mut depth = 0usize;
-    for at in from..piece.words.len() {
-        let name = piece.text(at);
-        let is_type = in_type || depth > 0;
-        if is_type && piece.kind(at) == Kind::Name && !known.is_type(name) {
-            return Some(at);
-        }
-        depth = type_depth(depth, name);
-    }
-    None
 }
 
 /// Says the first name in the types of a text that stands for none, from a word on; where `in_type`, the text is a type itself.
@@ -124,18 +87,24 @@ pub(crate) fn unknown_type(
     in_type: bool,
 ) {
     let known = teller.known;
-    let Some(at) = first_untyped(known, piece, from, in_type) else {
-        return;
-    };
-    let unknown = Unknown {
-        said: "no type is named",
-        name: piece.text(at),
-        first: &known.types,
-        second: &[],
-        lost: &known.lost_names,
-        otherwise: "; `newtype` declares one, and a type variable begins with a capital letter",
-    };
-    message.say_unknown(teller.alloc, piece.start(at), &unknown);
+    let mut depth = 0usize;
+    for at in from..piece.words.len() {
+        let name = piece.text(at);
+        let is_type = in_type || depth > 0;
+        if is_type && piece.kind(at) == Kind::Name && !known.is_type(name) {
+            let unknown = Unknown {
+                said: "no type is named",
+                name,
+                first: &known.types,
+                second: &[],
+                lost: &known.lost_names,
+                otherwise: "; `newtype` declares one, and a type variable begins with a capital letter",
+            };
+            message.say_unknown(teller.alloc, piece.start(at), &unknown);
+            return;
+        }
+        depth = type_depth(depth, name);
+    }
 }
 
 // What is said behind a name that a command may not make known: by the refusal and the word of the command, or any word.
@@ -150,17 +119,14 @@ NameTaken #any  is taken, or a theorem is stored under it with `_def` behind it
 AlreadyDefined #any  is the name of a constant or a type already
 TypeVarsNotReflected newconst  is declared at a type with type variables, and a declared constant has none";
 
-// What is said behind the name that a command of this word makes, where that is refused so.
-fn behind_name(fault: &str, word: &str) -> Option<&'static str> {
-    match line_of_pair(NEW_NAMES, fault, word) {
-        Some(said) => Some(said),
-        None => line_of_pair(NEW_NAMES, fault, "#any"),
-    }
-}
-
 /// Says what is wrong with a name that a command makes.
 pub(crate) fn at_new_name(case: &Case<'_>, message: &mut Message) {
-    if let Some(said) = behind_name(case.fault.name(), case.piece.text(0)) {
+    let (fault, word) = (case.fault.name(), case.piece.text(0));
+    let said = match line_of_pair(NEW_NAMES, fault, word) {
+        Some(said) => Some(said),
+        None => line_of_pair(NEW_NAMES, fault, "#any"),
+    };
+    if let Some(said) = said {
         case.say(message, 1, &[Quoted(case.piece.text(1)), Text(said)]);
     }
 }

@@ -1,10 +1,9 @@
 // Parts of terms.
 use hol_alpha::aconv;
 use hol_explain_words::Message;
-use hol_model::{Fault, TERM_HEIGHT_LIMIT};
+use hol_model::TERM_HEIGHT_LIMIT;
 use hol_subst::vsubst;
 use hol_terms::{Parts, Term};
-use hol_types::Ty;
 use std::alloc::Global;
 
 /// The operands of an infix of this name.
@@ -34,19 +33,6 @@ pub(crate) fn dest_quantified(term: &Term) -> Option<(&Term, &Term)> {
     }
 }
 
-/// The name and the type of the variable that a quantified formula binds.
-pub(crate) fn bound_variable(formula: &Term) -> Option<(&str, &Ty)> {
-    let (variable, _) = dest_quantified(formula)?;
-    variable.dest_var()
-}
-
-// A term with another one in the place of a variable.
-fn with(alloc: Global, body: &Term, variable: &Term, term: &Term) -> Result<Term, Fault> {
-    let new = term.copy(alloc)?;
-    let old = variable.copy(alloc)?;
-    vsubst(alloc, &[(new, old)], body)
-}
-
 /// The body of a quantified formula at a term.
 pub(crate) fn body_at(
     alloc: Global,
@@ -55,7 +41,9 @@ pub(crate) fn body_at(
     message: &mut Message,
 ) -> Option<Term> {
     let (variable, body) = dest_quantified(formula)?;
-    message.given(with(alloc, body, variable, term))
+    let new = message.given(term.copy(alloc))?;
+    let old = message.given(variable.copy(alloc))?;
+    message.given(vsubst(alloc, &[(new, old)], body))
 }
 
 // The parts of two terms in which they differ first, one step down; nothing where they differ at the top.

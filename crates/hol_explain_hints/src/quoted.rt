@@ -1,16 +1,15 @@
 // What is at fault inside a quoted term.
-use crate::names::{type_depth, unknown_type};
+use crate::names::unknown_type;
 use crate::said::Said::{Quoted, Text, Type, Typed};
 use crate::said::Teller;
-use crate::seen::type_in;
 use crate::steps::{
     begin_of_last, binder_sign, infix_sign, is_refused, names_before, refused_front,
 };
-use hol_explain_words::{Kind, Message, Piece, Unknown, absent, text_of};
+use hol_explain_words::{Kind, Message, Piece, Unknown, absent, text_of, type_depth, type_in};
 use hol_model::Fault;
 use hol_syntax::{build_type, term_of_steps};
 use hol_syntax_grammar::grammar::Infix;
-use hol_syntax_grammar::{ReadError, TermStep, Token, TypeStep, parse_term, tokens_in};
+use hol_syntax_grammar::{ReadError, TermStep, TypeStep, parse_term, tokens_in};
 use hol_terms::Term;
 use hol_types::Ty;
 
@@ -18,11 +17,6 @@ const NO_NAME: &str = "no binder, constant or declared variable is named";
 
 const UNDECLARED: &str =
     "; a free variable is written `(name:type)` at each place, or declared by `var`";
-
-// Whether the word at a place in the list is a name of a term.
-fn is_name_at(piece: &Piece<'_>, at: usize) -> bool {
-    piece.kind(at) == Kind::Name || (at > 0 && piece.text(at.saturating_sub(1)) == "[")
-}
 
 // Where the name at a place in the list begins, with the bracket before it.
 fn begin_of_name(piece: &Piece<'_>, at: usize) -> usize {
@@ -36,14 +30,16 @@ fn begin_of_name(piece: &Piece<'_>, at: usize) -> usize {
 fn place_of_name(piece: &Piece<'_>, number: usize) -> usize {
     let mut names = 0usize;
     let mut depth = 0usize;
+    let mut before = "";
     for at in 0..piece.words.len() {
-        if depth == 0 && is_name_at(piece, at) {
+        if depth == 0 && (piece.kind(at) == Kind::Name || before == "[") {
             if names == number {
                 return begin_of_name(piece, at);
             }
             names = names.saturating_add(1);
         }
-        depth = type_depth(depth, piece.text(at));
+        before = piece.text(at);
+        depth = type_depth(depth, before);
     }
     0
 }
@@ -77,27 +73,6 @@ impl<'a> Quote<'a> {
         message.given(term_of_steps(self.teller.alloc, &self.teller.known.scope, front))
     }
 
-    // Says that a bare name stands for a constant whose type has type variables.
-    fn generic_bare(&self, message: &mut Message, at: usize, name: &'a str, ty: &'a Ty) {
-        let parts = [
-            Quoted(name),
-            Text(" is a constant with type variables in its type "),
-            Type(ty),
-            Text(", so that it is written `["),
-            Text(name),
-            Text(":type]`"),
-        ];
-        self.teller.say(message, at, &parts);
-    }
-
-    // Says that the goal has a variable of the bare name, of the type of a text.
-    fn typed_bare(&self, message: &mut Message, at: usize, name: &str, ty: &str) {
-        message.at = at;
-        message.push_made(format!(in self.teller.alloc;
-            "{NO_NAME} `{name}`; the goal has `({name}:{ty})`: write it with its type, or declare `var {name} : {ty}`"
-        ));
-    }
-
     // Says that a bare name stands for nothing.
     fn undeclared(&self, message: &mut Message, at: usize, name: &'a str) {
         let known = self.teller.known;
@@ -121,49 +96,45 @@ impl<'a> Quote<'a> {
         message.say_unknown(self.teller.alloc, at, &unknown);
     }
 
-    // Says why a bare name does not stand for a term.
+    // Says why a bare name does not stand for a term: its constant has type variables, a variable of the goal wants its type, or it
+    // stands for nothing.
     fn at_bare(&self, message: &mut Message, at: usize, name: &'a str) {
-        if let Some(ty) = self.teller.known.scope.const_type(name) {
-            self.generic_bare(message, at, name, ty);
-        } else if let Some(ty) = type_in(self.teller.goal, name) {
-            self.typed_bare(message, at, name, ty);
+        let Teller { alloc, known, goal } = self.teller;
+        if let Some(ty) = known.scope.const_type(name) {
+            let parts = [
+                Quoted(name),
+                Text(" is a constant with type variables in its type "),
+                Type(ty),
+                Text(", so that it is written `["),
+                Text(name),
+                Text(":type]`"),
+            ];
+            self.teller.say(message, at, &parts);
+        } else if let Some(ty) = type_in(goal, name) {
+            message.at = at;
+            message.push_made(format!(in alloc;
+                "{NO_NAME} `{name}`; the goal has `({name}:{ty})`: write it with its type, or declare `var {name} : {ty}`"
+            ));
         } else {
             self.undeclared(message, at, name);
         }
     }
 
-    // Says that a constant is not known.
-    fn unknown_constant(&self, message: &mut Message, at: usize, name: &'a str) {
-        let known = self.teller.known;
-        let unknown = Unknown {
-            said: "no constant is named",
-            name,
-            first: &known.constants,
-            second: &[],
-            lost: &known.lost_names,
-            otherwise: "; `def` defines one, and `newconst` declares one",
+    // Says that a constant is not known, or stands at a type that is no instance of its own.
+    fn at_constant(&self, message: &mut Message, at: usize, name: &'a str, types: &[TypeStep<'_>]) {
+        let Teller { alloc, known, .. } = self.teller;
+        let Some(generic) = known.scope.const_type(name) else {
+            let unknown = Unknown {
+                said: "no constant is named",
+                name,
+                first: &known.constants,
+                second: &[],
+                lost: &known.lost_names,
+                otherwise: "; `def` defines one, and `newconst` declares one",
+            };
+            message.say_unknown(alloc, at, &unknown);
+            return;
         };
-        message.say_unknown(self.teller.alloc, at, &unknown);
-    }
-
-    // Puts a type at the end that is no instance of a constant's own.
-    fn push_no_instance(&self, message: &mut Message, types: &[TypeStep<'_>]) {
-        let scope = &self.teller.known.scope;
-        if let Some(ty) = message.given(build_type(self.teller.alloc, scope, types)) {
-            let parts = [Text(", and "), Type(&ty), Text(" is no instance of it")];
-            self.teller.push(message, &parts);
-        }
-    }
-
-    // Says that a constant stands at a type that is no instance of its own.
-    fn no_instance(
-        &self,
-        message: &mut Message,
-        at: usize,
-        name: &'a str,
-        generic: &'a Ty,
-        types: &[TypeStep<'_>],
-    ) {
         let parts = [
             Text("the constant "),
             Quoted(name),
@@ -171,31 +142,10 @@ impl<'a> Quote<'a> {
             Type(generic),
         ];
         self.teller.say(message, at, &parts);
-        self.push_no_instance(message, types);
-    }
-
-    // Says that a constant is not known, or stands at a type that is no instance of its own.
-    fn at_constant(&self, message: &mut Message, at: usize, name: &'a str, types: &[TypeStep<'_>]) {
-        match self.teller.known.scope.const_type(name) {
-            Some(generic) => self.no_instance(message, at, name, generic, types),
-            None => self.unknown_constant(message, at, name),
+        if let Some(ty) = message.given(build_type(alloc, &known.scope, types)) {
+            let parts = [Text(", and "), Type(&ty), Text(" is no instance of it")];
+            self.teller.push(message, &parts);
         }
-    }
-
-    // Says that a function does not fit its argument.
-    fn misapplied(&self, message: &mut Message, operands: Operands<'_>) {
-        let lead = if operands.first.ty().dest_fun().is_some() {
-            "the function "
-        } else {
-            "what is applied is no function: "
-        };
-        let parts = [
-            Text(lead),
-            Typed(operands.first),
-            Text(", and its argument "),
-            Typed(operands.second),
-        ];
-        self.teller.say(message, operands.right, &parts);
     }
 
     // Says that an operand is no formula.
@@ -214,57 +164,44 @@ impl<'a> Quote<'a> {
         self.teller.say(message, at, &parts);
     }
 
-    // Says that the sides of an equation have two types.
-    fn unequal(&self, message: &mut Message, operands: Operands<'_>) {
-        let parts = [
-            Text("the sides of `=` have one type, but the left side "),
-            Typed(operands.first),
-            Text(", and the right side "),
-            Typed(operands.second),
-        ];
-        self.teller.say(message, operands.right, &parts);
-    }
-
     // Says that an infix, or application where there is none, does not fit its operands.
     fn misjoined(&self, message: &mut Message, operation: Option<Infix>, operands: Operands<'_>) {
-        match operation {
-            None => self.misapplied(message, operands),
-            Some(Infix::Equal) => self.unequal(message, operands),
+        let Operands { first, second, .. } = operands;
+        let (lead, joint) = match operation {
+            None if first.ty().dest_fun().is_some() => ("the function ", ", and its argument "),
+            None => ("what is applied is no function: ", ", and its argument "),
+            Some(Infix::Equal) => (
+                "the sides of `=` have one type, but the left side ",
+                ", and the right side ",
+            ),
             Some(operation) => {
-                let (at, operand) = if operands.first.ty().is_bool() {
-                    (operands.right, operands.second)
+                let (at, operand) = if first.ty().is_bool() {
+                    (operands.right, second)
                 } else {
-                    (operands.left, operands.first)
+                    (operands.left, first)
                 };
                 self.no_formula(message, at, infix_sign(operation), operand);
+                return;
             }
-        }
-    }
-
-    // The same where the second operand is known, which begins behind so many steps.
-    fn at_second(
-        &self,
-        message: &mut Message,
-        operation: Option<Infix>,
-        second: &Term,
-        begin: usize,
-    ) {
-        if let Some(first) = self.last_term(message, begin) {
-            let operands = Operands {
-                first: &first,
-                second,
-                left: self.place(begin_of_last(self.steps, begin)),
-                right: self.place(begin),
-            };
-            self.misjoined(message, operation, operands);
-        }
+        };
+        let parts = [Text(lead), Typed(first), Text(joint), Typed(second)];
+        self.teller.say(message, operands.right, &parts);
     }
 
     // Says what is wrong with an infix, or an application where there is none, that is refused behind so many other steps.
     fn at_operands(&self, message: &mut Message, before: usize, operation: Option<Infix>) {
-        if let Some(second) = self.last_term(message, before) {
-            let begin = begin_of_last(self.steps, before);
-            self.at_second(message, operation, &second, begin);
+        let Some(second) = self.last_term(message, before) else {
+            return;
+        };
+        let right = begin_of_last(self.steps, before);
+        if let Some(first) = self.last_term(message, right) {
+            let operands = Operands {
+                first: &first,
+                second: &second,
+                left: self.place(begin_of_last(self.steps, right)),
+                right: self.place(right),
+            };
+            self.misjoined(message, operation, operands);
         }
     }
 
@@ -291,21 +228,6 @@ impl<'a> Quote<'a> {
             _ => {}
         }
     }
-
-    // Says what is wrong with the text, where it is refused so.
-    fn say(&self, message: &mut Message, fault: &Fault) {
-        let scope = &self.teller.known.scope;
-        let alloc = self.teller.alloc;
-        if !is_refused(alloc, scope, self.steps, fault) {
-            return;
-        }
-        if *fault == Fault::UnknownType {
-            unknown_type(self.teller, message, self.piece, 0, false);
-        } else {
-            let front = refused_front(alloc, scope, self.steps, fault);
-            self.at_step(message, front.saturating_sub(1));
-        }
-    }
 }
 
 // What the reader answers, by the fault of the command.
@@ -317,24 +239,6 @@ fn read<T: Drop>(answer: Result<T, ReadError>) -> Result<T, Fault> {
     }
 }
 
-// Says what is wrong with a quoted text of these tokens.
-fn in_tokens<'a>(
-    teller: Teller<'a>,
-    message: &mut Message,
-    piece: &'a Piece<'a>,
-    tokens: &[Token<'a>],
-    fault: &Fault,
-) {
-    if let Some(steps) = message.given(read(parse_term(teller.alloc, tokens))) {
-        let quote = Quote {
-            teller,
-            piece,
-            steps: &steps,
-        };
-        quote.say(message, fault);
-    }
-}
-
 /// Says what is wrong with a quoted text that is refused so as a term, where it is.
 pub(crate) fn in_quote<'a>(
     teller: Teller<'a>,
@@ -342,7 +246,25 @@ pub(crate) fn in_quote<'a>(
     piece: &'a Piece<'a>,
     fault: &Fault,
 ) {
-    if let Some(tokens) = message.given(read(tokens_in(teller.alloc, piece.bytes))) {
-        in_tokens(teller, message, piece, &tokens, fault);
+    let (alloc, scope) = (teller.alloc, &teller.known.scope);
+    let Some(tokens) = message.given(read(tokens_in(alloc, piece.bytes))) else {
+        return;
+    };
+    let Some(steps) = message.given(read(parse_term(alloc, &tokens))) else {
+        return;
+    };
+    if !is_refused(alloc, scope, &steps, fault) {
+        return;
     }
+    if *fault == Fault::UnknownType {
+        unknown_type(teller, message, piece, 0, false);
+        return;
+    }
+    let quote = Quote {
+        teller,
+        piece,
+        steps: &steps,
+    };
+    let front = refused_front(alloc, scope, &steps, fault);
+    quote.at_step(message, front.saturating_sub(1));
 }

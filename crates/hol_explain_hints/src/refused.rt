@@ -8,27 +8,20 @@ use crate::said::Said::Text;
 use hol_explain_words::{Kind, Message, Piece, sentence};
 use hol_model::Fault;
 
-// Says what is at fault in a text that stands between backquotes.
-fn in_text(case: &Case<'_>, message: &mut Message, inside: &Piece<'_>) {
-    if case.rule() == "INST_TYPE" {
-        unknown_type(case.teller(), message, inside, 0, true);
-    } else {
-        in_quote(case.teller(), message, inside, case.fault);
-    }
-}
-
-// The same of the text between backquotes at a place in the list.
-fn at_quote(case: &Case<'_>, message: &mut Message, at: usize) {
-    if let Some(inside) = message.made(Piece::of_quote(case.alloc, case.piece.quoted(at))) {
-        in_text(case, message, &inside);
-    }
-}
-
 // Says what is at fault in the first quoted text that is refused so.
 fn in_quotes(case: &Case<'_>, message: &mut Message) {
     for at in 0..case.piece.words.len() {
         if case.piece.kind(at) == Kind::Quote {
-            at_quote(case, message, at);
+            if let Some(inside) = message.made(Piece::of_quote(
+                case.teller.alloc,
+                case.piece.quoted(at),
+            )) {
+                if case.rule() == "INST_TYPE" {
+                    unknown_type(case.teller, message, &inside, 0, true);
+                } else {
+                    in_quote(case.teller, message, &inside, case.fault);
+                }
+            }
             if !message.is_empty() {
                 message.enter_quote(case.piece.start(at));
                 return;
@@ -59,19 +52,9 @@ fn at_row(case: &Case<'_>, message: &mut Message) {
 fn in_words(case: &Case<'_>, message: &mut Message) {
     match case.fault {
         Fault::UnknownName => in_names(case, message),
-        Fault::UnknownType => unknown_type(case.teller(), message, case.piece, 3, true),
+        Fault::UnknownType => unknown_type(case.teller, message, case.piece, 3, true),
         Fault::NotTautology { .. } => at_row(case, message),
         _ => at_new_name(case, message),
-    }
-}
-
-// Says what the terms and the theorems of a command tell of its refusal.
-fn in_arguments(case: &Case<'_>, message: &mut Message) {
-    match case.piece.text(0) {
-        "thm" => at_rule(case, message),
-        "def" => at_definition(case, message),
-        "goal" => at_new_goal(case, message),
-        _ => {}
     }
 }
 
@@ -82,7 +65,12 @@ pub fn of_case(case: &Case<'_>, message: &mut Message) {
         in_words(case, message);
     }
     if message.is_empty() {
-        in_arguments(case, message);
+        match case.piece.text(0) {
+            "thm" => at_rule(case, message),
+            "def" => at_definition(case, message),
+            "goal" => at_new_goal(case, message),
+            _ => {}
+        }
     }
 }
 
@@ -92,7 +80,7 @@ const FORGOTTEN: &str = "only the last 256 steps are kept, and all of these are 
 /// Says the sentence of a refused command of which no more is known.
 pub fn plain(case: &Case<'_>, message: &mut Message) {
     let at = if case.piece.text(0) == "thm" { 3 } else { 0 };
-    let said = if *case.fault == Fault::NothingToUndo && case.known.proof.steps > 0 {
+    let said = if *case.fault == Fault::NothingToUndo && case.teller.known.proof.steps > 0 {
         FORGOTTEN
     } else {
         sentence(case.fault)

@@ -2,26 +2,16 @@
 use crate::arguments::Premise;
 use crate::notes::Accepted;
 use crate::said::Said::{Quoted, Text, Type};
-use hol_explain_words::{Kind, Message, Piece};
+use hol_explain_words::{Kind, Message};
 use hol_syntax::read_type;
 use hol_terms::{Term, type_vars};
 use hol_types::Ty;
 use std::alloc::Global;
 
-// Whether a type is one of these.
-fn is_one_of(types: &[Ty], ty: &Ty) -> bool {
-    for known in types {
-        if known.eq(ty) {
-            return true;
-        }
-    }
-    false
-}
-
 // Whether a term has a type variable.
 fn has(alloc: Global, term: &Term, variable: &Ty, notes: &mut Message) -> bool {
     match notes.given(type_vars(alloc, term)) {
-        Some(variables) => is_one_of(&variables, variable),
+        Some(variables) => variables.iter().any(|known| known.eq(variable)),
         None => false,
     }
 }
@@ -36,47 +26,33 @@ fn occurs(alloc: Global, premise: &Premise, variable: &Ty, notes: &mut Message) 
     has(alloc, &premise.conclusion, variable, notes)
 }
 
-// Says that the type variable at a place in the list is none of a theorem, where it is none.
-fn push_absent<'b>(
-    of: &Accepted<'_>,
-    notes: &mut Message,
-    at: usize,
-    variable: &'b Ty,
-    premise: &'b Premise,
-) {
-    if occurs(of.alloc, premise, variable, notes) {
+// Says that the type variable that the word at a place in the list quotes is none of a theorem, where it is none.
+fn push_absent(of: &Accepted<'_>, notes: &mut Message, at: usize, premise: &Premise) {
+    let read = read_type(of.alloc, &of.known.scope, of.told.piece.quoted(at));
+    let Some(variable) = notes.given(read) else {
         return;
+    };
+    if !occurs(of.alloc, premise, &variable, notes) {
+        let parts = [
+            Text("nothing is put for "),
+            Type(&variable),
+            Text(", which is no type variable of "),
+            Quoted(premise.name()),
+        ];
+        of.push(notes, of.told.piece.start(at), &parts);
     }
-    let parts = [
-        Text("nothing is put for "),
-        Type(variable),
-        Text(", which is no type variable of "),
-        Quoted(premise.name()),
-    ];
-    of.push(notes, of.piece.start(at), &parts);
-}
-
-// The same of the type variable that the word at a place in the list quotes.
-fn push_quoted(of: &Accepted<'_>, notes: &mut Message, at: usize, premise: &Premise) {
-    let read = read_type(of.alloc, &of.known.scope, of.piece.quoted(at));
-    if let Some(variable) = notes.given(read) {
-        push_absent(of, notes, at, &variable, premise);
-    }
-}
-
-// Whether a quoted type variable for which a type is put stands at a place in the list.
-fn is_replaced(piece: &Piece<'_>, at: usize) -> bool {
-    piece.kind(at) == Kind::Quote && piece.text(at.saturating_sub(1)) == ","
 }
 
 /// Says which type variables of `INST_TYPE` its theorem does not have.
 pub(crate) fn push_types(of: &Accepted<'_>, notes: &mut Message) {
-    let Some(Some(premise)) = of.arguments.theorems.first() else {
+    let Some(premise) = of.arguments.theorem(0) else {
         return;
     };
-    for at in 0..of.piece.words.len() {
-        if is_replaced(of.piece, at) {
-            push_quoted(of, notes, at, premise);
+    for at in 0..of.told.piece.words.len() {
+        if of.told.piece.kind(at) == Kind::Quote
+            && of.told.piece.text(at.saturating_sub(1)) == ","
+        {
+            push_absent(of, notes, at, premise);
         }
     }
 }

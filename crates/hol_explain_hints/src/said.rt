@@ -1,8 +1,7 @@
 // Messages in parts.
 use crate::arguments::Premise;
-use crate::parts::bound_variable;
-use crate::seen::type_in;
-use hol_explain_words::{Known, Message, Piece, between, text_of};
+use crate::parts::dest_quantified;
+use hol_explain_words::{Known, Message, Piece, between, text_of, type_in};
 use hol_model::Fault;
 use hol_syntax::read_type;
 use hol_syntax_print::{text_of_term, text_of_type};
@@ -48,42 +47,17 @@ fn push_shown(message: &mut Message, text: Result<String, Fault>) {
     }
 }
 
-/// Who tells: what names stand for, what the first open goal is, and where texts are made.
+/// Who tells: what names stand for, the line of the first open goal, and where texts are made.
 #[derive(Clone, Copy)]
-pub(crate) struct Teller<'a> {
-    pub(crate) alloc: Global,
-    pub(crate) known: &'a Known,
-    pub(crate) goal: &'a Piece<'a>,
+pub struct Teller<'a> {
+    pub alloc: Global,
+    pub known: &'a Known,
+    pub goal: &'a Piece<'a>,
 }
 
 impl Teller<'_> {
     fn text_of(&self, term: &Term) -> Result<String, Fault> {
         text_of_term(self.alloc, &self.known.scope, term)
-    }
-
-    fn push_bare(&self, message: &mut Message, term: &Term) {
-        if let Some(text) = message.given(self.text_of(term)) {
-            message.push_str(text.as_str());
-        }
-    }
-
-    fn push_type(&self, message: &mut Message, ty: &Ty) {
-        push_shown(message, text_of_type(self.alloc, ty));
-    }
-
-    fn push_typed(&self, message: &mut Message, term: &Term) {
-        push_shown(message, self.text_of(term));
-        message.push_str(" has the type ");
-        self.push_type(message, term.ty());
-        self.push_other(message, term);
-    }
-
-    // Whether a text is that of another type.
-    fn is_of_another(&self, message: &mut Message, text: &str, ty: &Ty) -> bool {
-        match message.given(read_type(self.alloc, &self.known.scope, text.as_bytes())) {
-            Some(found) => !found.eq(ty),
-            None => false,
-        }
     }
 
     // Puts the goal's variable of the same name at the end, where that has another type.
@@ -94,8 +68,11 @@ impl Teller<'_> {
         let Some(text) = type_in(self.goal, name) else {
             return;
         };
-        if self.is_of_another(message, text, ty) {
-            message.push_texts(&[" (the goal has `(", name, ":", text, ")`)"]);
+        let read = read_type(self.alloc, &self.known.scope, text.as_bytes());
+        if let Some(found) = message.given(read) {
+            if !found.eq(ty) {
+                message.push_texts(&[" (the goal has `(", name, ":", text, ")`)"]);
+            }
         }
     }
 
@@ -103,10 +80,19 @@ impl Teller<'_> {
         match part {
             Said::Text(text) => message.push_str(text),
             Said::Quoted(text) => push_quoted(message, text),
-            Said::Bare(term) => self.push_bare(message, term),
+            Said::Bare(term) => {
+                if let Some(text) = message.given(self.text_of(term)) {
+                    message.push_str(text.as_str());
+                }
+            }
             Said::Shown(term) => push_shown(message, self.text_of(term)),
-            Said::Type(ty) => self.push_type(message, ty),
-            Said::Typed(term) => self.push_typed(message, term),
+            Said::Type(ty) => push_shown(message, text_of_type(self.alloc, ty)),
+            Said::Typed(term) => {
+                push_shown(message, self.text_of(term));
+                message.push_str(" has the type ");
+                push_shown(message, text_of_type(self.alloc, term.ty()));
+                self.push_other(message, term);
+            }
             Said::Theorem(theorem) => {
                 push_quoted(message, theorem.name());
                 message.push_str(" is ");
@@ -130,7 +116,10 @@ impl Teller<'_> {
 
     /// Puts the types at the end of the variable that a formula binds, and of a term that is to stand for it.
     pub(crate) fn push_misfit<'b>(&self, message: &mut Message, formula: &'b Term, term: &'b Term) {
-        let Some((name, ty)) = bound_variable(formula) else {
+        let Some((variable, _)) = dest_quantified(formula) else {
+            return;
+        };
+        let Some((name, ty)) = variable.dest_var() else {
             return;
         };
         let parts = [

@@ -44,72 +44,41 @@ pub(crate) fn refused_front(
     refused
 }
 
-// How many terms are wanted and how many scopes are open, from the back.
-#[derive(Clone, Copy)]
-struct Wanted {
-    terms: usize,
-    scopes: usize,
-}
-
-// What is wanted before a step, of what is wanted behind it.
-fn before_step(step: &TermStep<'_>, behind: Wanted) -> Wanted {
-    let Wanted { terms, scopes } = behind;
-    match step {
-        TermStep::Bare(_) | TermStep::Variable(_, _) | TermStep::Constant(_, _) => Wanted {
-            terms: terms.saturating_sub(1),
-            scopes,
-        },
-        TermStep::Apply | TermStep::Join(_) => Wanted {
-            terms: terms.saturating_add(1),
-            scopes,
-        },
-        TermStep::Enter(_, _) => Wanted {
-            terms,
-            scopes: scopes.saturating_sub(1),
-        },
-        TermStep::Leave(_) => Wanted {
-            terms,
-            scopes: scopes.saturating_add(1),
-        },
-        TermStep::Not => behind,
-    }
-}
-
 /// How many steps stand before those that make the last term of the first steps, so many.
 pub(crate) fn begin_of_last(steps: &[TermStep<'_>], count: usize) -> usize {
-    let mut wanted = Wanted {
-        terms: 1,
-        scopes: 0,
-    };
+    // How many terms are wanted and how many scopes are open, from the back.
+    let mut terms = 1usize;
+    let mut scopes = 0usize;
     let mut at = count;
     for _ in 0..count {
-        if wanted.terms == 0 && wanted.scopes == 0 {
+        if terms == 0 && scopes == 0 {
             break;
         }
         at = at.saturating_sub(1);
-        if let Some(step) = steps.get(at) {
-            wanted = before_step(step, wanted);
+        match steps.get(at) {
+            Some(TermStep::Bare(_) | TermStep::Variable(_, _) | TermStep::Constant(_, _)) => {
+                terms = terms.saturating_sub(1);
+            }
+            Some(TermStep::Apply | TermStep::Join(_)) => terms = terms.saturating_add(1),
+            Some(TermStep::Enter(_, _)) => scopes = scopes.saturating_sub(1),
+            Some(TermStep::Leave(_)) => scopes = scopes.saturating_add(1),
+            Some(TermStep::Not) | None => {}
         }
     }
     at
 }
 
-// Whether a step stands for a name of the text.
-fn is_named(step: &TermStep<'_>) -> bool {
-    matches!(
-        step,
-        TermStep::Bare(_)
-            | TermStep::Variable(_, _)
-            | TermStep::Constant(_, _)
-            | TermStep::Enter(_, _)
-    )
-}
-
-/// How many of the first steps, so many, stand for names.
+/// How many of the first steps, so many, stand for names of the text.
 pub(crate) fn names_before(steps: &[TermStep<'_>], count: usize) -> usize {
     let mut names = 0usize;
     for at in 0..count.min(steps.len()) {
-        if is_named(&steps[at]) {
+        if matches!(
+            &steps[at],
+            TermStep::Bare(_)
+                | TermStep::Variable(_, _)
+                | TermStep::Constant(_, _)
+                | TermStep::Enter(_, _)
+        ) {
             names = names.saturating_add(1);
         }
     }

@@ -1,5 +1,4 @@
 // What is said of rules whose terms are not alike.
-use crate::arguments::Premise;
 use crate::case::Case;
 use crate::parts::{body_at, differing, infix_parts, sides};
 use crate::said::Said::{Shown, Text};
@@ -36,101 +35,85 @@ fn differ<'b>(
             Text(" and "),
             Shown(other),
         ];
-        case.push(message, &parts);
+        case.teller.push(message, &parts);
     }
 }
 
 // Says how the body of the formula that `EXISTS` is to prove, at its witness, and the conclusion of its theorem differ.
-fn unlike_body(case: &Case<'_>, message: &mut Message, wanted: &Term, premise: &Premise) {
-    let first = Side {
-        said: "the body of the first term at the witness, ",
-        term: wanted,
-    };
-    let second = Side {
-        said: " and the conclusion of the theorem, ",
-        term: &premise.conclusion,
-    };
-    differ(case, message, premise.at, first, second);
-}
-
-// The same of the formula and the witness that it is given.
-fn no_witness(case: &Case<'_>, message: &mut Message) {
+fn unlike_body(case: &Case<'_>, message: &mut Message) {
     let (Some(formula), Some(witness), Some(premise)) = (
-        case.term(0),
-        case.term(1),
-        case.theorem(0),
+        case.arguments.term(0),
+        case.arguments.term(1),
+        case.arguments.theorem(0),
     ) else {
         return;
     };
-    if let Some(wanted) = body_at(case.alloc, &formula.term, &witness.term, message) {
-        unlike_body(case, message, &wanted, premise);
+    if let Some(wanted) = body_at(case.teller.alloc, &formula.term, &witness.term, message) {
+        let first = Side {
+            said: "the body of the first term at the witness, ",
+            term: &wanted,
+        };
+        let second = Side {
+            said: " and the conclusion of the theorem, ",
+            term: &premise.conclusion,
+        };
+        differ(case, message, premise.at, first, second);
     }
 }
 
-// What is said before the parts of two conclusions that a rule wants to be alike.
-fn leads(rule: &str) -> (&'static str, &'static str) {
-    match rule {
+// The parts of two conclusions that a rule wants to be alike, and what is said before each.
+fn compared<'a>(rule: &str, first: &'a Term, second: &'a Term) -> Option<(Side<'a>, Side<'a>)> {
+    let (lead, wanted, joint, found) = match rule {
         "DISJ_CASES" => (
             "the conclusion of the second theorem, ",
+            first,
             " and that of the third, ",
+            second,
         ),
         "TRANS" => (
             "the right side of the first theorem, ",
+            sides(first)?.1,
             " and the left side of the second, ",
+            sides(second)?.0,
         ),
         "MP" => (
             "the antecedent of the first theorem, ",
+            infix_parts(first, "==>")?.0,
             " and the conclusion of the second, ",
+            second,
         ),
         _ => (
             "the left side of the first theorem, ",
+            sides(first)?.0,
             " and the conclusion of the second, ",
+            second,
         ),
-    }
-}
-
-// The part of the first conclusion that a rule compares.
-fn wanted_part<'a>(rule: &str, conclusion: &'a Term) -> Option<&'a Term> {
-    match rule {
-        "DISJ_CASES" => Some(conclusion),
-        "TRANS" => Some(sides(conclusion)?.1),
-        "MP" => Some(infix_parts(conclusion, "==>")?.0),
-        _ => Some(sides(conclusion)?.0),
-    }
-}
-
-// The part of the second conclusion that a rule compares.
-fn found_part<'a>(rule: &str, conclusion: &'a Term) -> Option<&'a Term> {
-    if rule == "TRANS" {
-        Some(sides(conclusion)?.0)
-    } else {
-        Some(conclusion)
-    }
-}
-
-// Says which parts of two conclusions have to be alike.
-fn unlike_conclusions(case: &Case<'_>, message: &mut Message, first: &Premise, second: &Premise) {
-    let rule = case.rule();
-    let (said, behind) = leads(rule);
-    if let (Some(wanted), Some(found)) = (
-        wanted_part(rule, &first.conclusion),
-        found_part(rule, &second.conclusion),
-    ) {
-        let other = Side {
-            said: behind,
-            term: found,
-        };
-        differ(case, message, second.at, Side { said, term: wanted }, other);
-    }
+    };
+    let wanted = Side {
+        said: lead,
+        term: wanted,
+    };
+    let found = Side {
+        said: joint,
+        term: found,
+    };
+    Some((wanted, found))
 }
 
 /// Says which terms of a rule have to be alike.
 pub(crate) fn not_alpha(case: &Case<'_>, message: &mut Message) {
     let rule = case.rule();
-    let from = if rule == "DISJ_CASES" { 1 } else { 0 };
     if rule == "EXISTS" {
-        no_witness(case, message);
-    } else if let (Some(first), Some(second)) = (case.theorem(from), case.theorem(from + 1)) {
-        unlike_conclusions(case, message, first, second);
+        unlike_body(case, message);
+        return;
+    }
+    let from = if rule == "DISJ_CASES" { 1 } else { 0 };
+    if let (Some(first), Some(second)) = (
+        case.arguments.theorem(from),
+        case.arguments.theorem(from + 1),
+    ) {
+        if let Some((wanted, found)) = compared(rule, &first.conclusion, &second.conclusion) {
+            differ(case, message, second.at, wanted, found);
+        }
     }
 }

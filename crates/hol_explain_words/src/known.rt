@@ -125,12 +125,6 @@ impl Known {
         push_name(alloc, &mut self.constants, name)
     }
 
-    // A variable is declared at a type.
-    fn learn_variable(&mut self, alloc: Global, name: &str, ty: &Ty) -> Result<(), NoMemory> {
-        let _known = given(self.scope.set_var(alloc, name, ty))?;
-        push_name(alloc, &mut self.variables, name)
-    }
-
     // A variable or a constant is known at the type of a text.
     fn learn_typed(
         &mut self,
@@ -140,7 +134,10 @@ impl Known {
         is_variable: bool,
     ) -> Result<(), NoMemory> {
         match given(read_type(alloc, &self.scope, ty))? {
-            Some(ty) if is_variable => self.learn_variable(alloc, name, &ty),
+            Some(ty) if is_variable => {
+                let _known = given(self.scope.set_var(alloc, name, &ty))?;
+                push_name(alloc, &mut self.variables, name)
+            }
             Some(ty) => self.learn_constant(alloc, name, &ty),
             None => Ok(()),
         }
@@ -155,12 +152,6 @@ impl Known {
         }
     }
 
-    // A type is declared.
-    fn learn_type(&mut self, alloc: Global, name: &str) -> Result<(), NoMemory> {
-        let _known = given(self.scope.add_type(alloc, name))?;
-        push_name(alloc, &mut self.types, name)
-    }
-
     /// An accepted command makes its names known.
     pub fn learn(&mut self, alloc: Global, piece: &Piece<'_>) -> Result<(), NoMemory> {
         self.proof.accept(piece.text(0));
@@ -171,20 +162,12 @@ impl Known {
             "var" => self.learn_typed(alloc, name, behind, true),
             "newconst" => self.learn_typed(alloc, name, behind, false),
             "def" => self.learn_definition(alloc, name, piece.quoted(3)),
-            "newtype" => self.learn_type(alloc, name),
+            "newtype" => {
+                let _known = given(self.scope.add_type(alloc, name))?;
+                push_name(alloc, &mut self.types, name)
+            }
             _ => Ok(()),
         }
-    }
-
-    /// An accepted command, which stands at a place, leaves the open goals of a text.
-    pub fn learn_goals(
-        &mut self,
-        alloc: Global,
-        piece: &Piece<'_>,
-        goals: &str,
-        place: &str,
-    ) -> Result<(), NoMemory> {
-        self.proof.leave(alloc, piece.text(0), goals, place)
     }
 
     // A refused command would have stored a theorem of a name; there may be one already.
@@ -247,11 +230,6 @@ pub(crate) fn place_lost<'a>(lost: &'a [String], name: &str) -> Option<&'a str> 
     None
 }
 
-// Whether two names differ in the case of letters alone, and are longer than a letter.
-fn is_same_word(name: &str, other: &str) -> bool {
-    name.len() > 1 && name.eq_ignore_ascii_case(other)
-}
-
 // How far a name may be from another that is near to it.
 fn reach(name: &str) -> usize {
     match name.len() {
@@ -261,8 +239,8 @@ fn reach(name: &str) -> usize {
     }
 }
 
-/// The first of the names that differ from a name in case alone, or of those that are nearest to it, where one is near. A message is
-/// told where there was no memory to look for it.
+/// The first of the names that differ in case alone from a name, if that is longer than a letter, or of those that are nearest to it,
+/// where one is near. A message is told where there was no memory to look for it.
 pub(crate) fn nearest<'a>(
     alloc: Global,
     first: &'a [String],
@@ -277,7 +255,7 @@ pub(crate) fn nearest<'a>(
     let mut least = reach(name).saturating_add(1);
     for known in first.iter().chain(second) {
         let candidate = known.as_str();
-        if is_same_word(name, candidate) {
+        if name.len() > 1 && name.eq_ignore_ascii_case(candidate) {
             return Some(candidate);
         }
         if candidate.len() <= NAME_LENGTH {

@@ -60,7 +60,7 @@ impl Proof {
     }
 
     /// An accepted command of this word, which stands at a place, leaves the open goals of a text.
-    pub(crate) fn leave(
+    pub fn leave(
         &mut self,
         alloc: Global,
         word: &str,

@@ -62,11 +62,6 @@ fn begins_another(piece: &Piece<'_>, at: usize) -> bool {
     blanks.any(|byte| *byte == b'\n') && is_command(piece.text(at))
 }
 
-// Whether parentheses stand behind the word of a command that has no arguments.
-fn is_called(piece: &Piece<'_>, at: usize) -> bool {
-    at == 1 && piece.text(1) == "(" && matches!(piece.text(0), "b" | "p")
-}
-
 // What is said of a word of a command that stands there for a mistake about commands, in three parts.
 fn slip<'a>(piece: &'a Piece<'_>, at: usize, symbol: &str) -> Option<(&'a str, &'a str, &'a str)> {
     if piece.is_quote {
@@ -75,22 +70,13 @@ fn slip<'a>(piece: &'a Piece<'_>, at: usize, symbol: &str) -> Option<(&'a str, &
     if symbol == "command" && is_ending(piece.text(at)) {
         return Some((ENDING, "", ""));
     }
-    if is_called(piece, at) {
+    if at == 1 && piece.text(1) == "(" && matches!(piece.text(0), "b" | "p") {
         return Some(("; `", piece.text(0), "` is written without `()`"));
     }
     if begins_another(piece, at) {
         return Some(("; a `;;` may be missing before it", "", ""));
     }
     None
-}
-
-// What is written in the place of a word of HOL Light at a symbol where a message lists words.
-fn written_at(symbol: &str, word: &str) -> Option<&'static str> {
-    if is_choice(symbol) {
-        written_for(word)
-    } else {
-        None
-    }
 }
 
 // Puts what is written in the place of a word at a symbol at the end, or the nearest of the words that may stand there.
@@ -101,7 +87,12 @@ fn push_other_word(
     word: &str,
     message: &mut Message,
 ) {
-    if let Some(written) = written_at(symbol, word) {
+    let written = if is_choice(symbol) {
+        written_for(word)
+    } else {
+        None
+    };
+    if let Some(written) = written {
         message.push_texts(&["; in its place is written ", written]);
     } else if let Some(near) = nearest(alloc, words, &[], word, message) {
         message.push_texts(&["; the nearest known word is `", near, "`"]);
@@ -126,15 +117,6 @@ fn push_better(
     }
 }
 
-// Puts the words that may stand at a symbol at the end, where a message lists them.
-fn push_list(alloc: Global, words: &[String], symbol: &str, message: &mut Message) {
-    if is_choice(symbol) {
-        message.push_str("; the words that could stand here are `");
-        message.push_made(words.join(alloc, "`, `"));
-        message.push_str("`");
-    }
-}
-
 // Says what could stand at a place in the list, and what stands there.
 fn missing(
     alloc: Global,
@@ -151,7 +133,11 @@ fn missing(
     let mut words = Vec::new(alloc);
     let _pushed = message.made(push_words_at(alloc, known, symbol, &mut words));
     push_better(alloc, &words, piece, at, symbol, message);
-    push_list(alloc, &words, symbol, message);
+    if is_choice(symbol) {
+        message.push_str("; the words that could stand here are `");
+        message.push_made(words.join(alloc, "`, `"));
+        message.push_str("`");
+    }
 }
 
 // Says where the quoted text at a place in the list stops being a term or a type, where it does.
@@ -180,11 +166,6 @@ fn in_quote(
     }
 }
 
-// Whether the quoted text at a place in the list is the second of a pair of types, and no type variable.
-fn is_wrongly_replaced(piece: &Piece<'_>, at: usize) -> bool {
-    piece.text(at.saturating_sub(1)) == "," && !is_type_variable(piece.quoted(at).trim_ascii())
-}
-
 // Says where the first faulty quoted text among the first words, so many, stops being a term or a type.
 fn in_quotes(alloc: Global, known: &Known, piece: &Piece<'_>, count: usize, message: &mut Message) {
     let is_type = piece.text(3) == "INST_TYPE";
@@ -196,7 +177,9 @@ fn in_quotes(alloc: Global, known: &Known, piece: &Piece<'_>, count: usize, mess
     for at in 0..count {
         if piece.kind(at) == Kind::Quote && message.is_empty() {
             in_quote(alloc, known, piece, at, symbol, message);
-            if is_type && message.is_empty() && is_wrongly_replaced(piece, at) {
+            let is_second = is_type && piece.text(at.saturating_sub(1)) == ",";
+            let is_variable = is_type_variable(piece.quoted(at).trim_ascii());
+            if message.is_empty() && is_second && !is_variable {
                 missing(alloc, known, piece, at, "type_variable", message);
             }
         }

@@ -50,7 +50,8 @@ impl Problem {
         if self.clauses.len() >= CLAUSES {
             return Err(HostFail::Failed);
         }
-        let leaves = self.leaves(alloc, route)?;
+        let mut leaves = Vec::new(alloc);
+        self.add_leaves(route, &mut leaves, DEPTH)?;
         if self.is_trivial(&leaves) {
             return Ok(());
         }
@@ -63,13 +64,6 @@ impl Problem {
             variables,
         })?;
         Ok(())
-    }
-
-    // The literals of a route, from left to right.
-    fn leaves(&self, alloc: Global, route: usize) -> Result<Vec<Literal>, HostFail> {
-        let mut leaves = Vec::new(alloc);
-        self.add_leaves(route, &mut leaves, DEPTH)?;
-        Ok(leaves)
     }
 
     fn is_trivial(&self, literals: &[Literal]) -> bool {

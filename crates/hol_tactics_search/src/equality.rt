@@ -73,38 +73,23 @@ fn give(
 fn equated_types(alloc: Global, terms: &Terms) -> Result<Vec<Ty>, HostFail> {
     let mut types = Vec::new(alloc);
     for symbol in terms.symbols() {
-        if let Some(side) = equated_by(symbol) {
-            push_type(alloc, side, &mut types)?;
+        if let Symbol::Known { term, .. } = symbol {
+            if let Some(side) = equated_type(term) {
+                types.push(side.copy(alloc)?)?;
+            }
         }
     }
     Ok(types)
 }
 
-fn push_type(alloc: Global, ty: &Ty, types: &mut Vec<Ty>) -> Result<(), HostFail> {
-    types.push(ty.copy(alloc)?)?;
-    Ok(())
-}
-
-// The type of the sides, where the symbol is equality.
-fn equated_by(symbol: &Symbol) -> Option<&Ty> {
-    match symbol {
-        Symbol::Known { term, .. } => equated_type(term),
-        Symbol::Witness { .. } => None,
-    }
-}
-
 // The type of the sides, where the term is equality.
 fn equated_type(term: &Term) -> Option<&Ty> {
     match term.dest_const() {
-        Some(("=", ty)) => domain(ty),
+        Some(("=", ty)) => match ty.dest_fun() {
+            Some((domain, _)) => Some(domain),
+            None => None,
+        },
         _ => None,
-    }
-}
-
-fn domain(ty: &Ty) -> Option<&Ty> {
-    match ty.dest_fun() {
-        Some((domain, _)) => Some(domain),
-        None => None,
     }
 }
 
@@ -113,22 +98,17 @@ fn applied_heads(alloc: Global, terms: &Terms) -> Result<Vec<Applied>, HostFail>
     let most = terms.most_arguments(alloc)?;
     let mut heads = Vec::new(alloc);
     for (symbol, arguments) in terms.symbols().iter().zip(&most) {
-        if let Some(term) = applied_term(symbol, *arguments) {
-            heads.push(Applied::new(alloc, term, *arguments)?)?;
+        if let Symbol::Known {
+            term,
+            parameters: 0,
+        } = symbol
+        {
+            if *arguments > 0 && equated_type(term).is_none() {
+                heads.push(Applied::new(alloc, term, *arguments)?)?;
+            }
         }
     }
     Ok(heads)
-}
-
-// What the symbol stands for, where it is applied to so many arguments and no equality.
-fn applied_term(symbol: &Symbol, arguments: u32) -> Option<&Term> {
-    match symbol {
-        Symbol::Known {
-            term,
-            parameters: 0,
-        } if arguments > 0 && equated_type(term).is_none() => Some(term),
-        _ => None,
-    }
 }
 
 impl Applied {
@@ -152,7 +132,8 @@ impl Applied {
             return Err(HostFail::Failed);
         };
         self.result = codomain.copy(alloc)?;
-        push_type(alloc, domain, &mut self.arguments)
+        self.arguments.push(domain.copy(alloc)?)?;
+        Ok(())
     }
 }
 
@@ -171,7 +152,7 @@ fn add_results(alloc: Global, heads: &[Applied], types: &mut Vec<Ty>) -> Result<
             && contains_any(types, &head.arguments)
             && !contains(types, &head.result)
         {
-            push_type(alloc, &head.result, types)?;
+            types.push(head.result.copy(alloc)?)?;
         }
     }
     Ok(())
@@ -273,12 +254,6 @@ impl Congruence {
         Ok(())
     }
 
-    // Applies both sides to the same variable.
-    fn apply_same(&mut self, alloc: Global, ty: &Ty) -> Result<(), HostFail> {
-        let x = self.fresh(alloc, "x", ty)?;
-        self.apply(alloc, &x, &x, refl(alloc, &x))
-    }
-
     // Applies the sides to two variables, by the premise that these are equal.
     fn apply_equal(&mut self, alloc: Global, ty: &Ty) -> Result<(), HostFail> {
         let y = self.fresh(alloc, "y", ty)?;
@@ -288,7 +263,7 @@ impl Congruence {
         self.apply(alloc, &x, &y, assume(alloc, &premise))
     }
 
-    // Applies the sides to arguments of these types; at some there are equations.
+    // Applies the sides to arguments of these types: where there are no equations, both to the same variable.
     fn apply_all(
         &mut self,
         alloc: Global,
@@ -299,7 +274,8 @@ impl Congruence {
             if contains(equated, argument) {
                 self.apply_equal(alloc, argument)?;
             } else {
-                self.apply_same(alloc, argument)?;
+                let x = self.fresh(alloc, "x", argument)?;
+                self.apply(alloc, &x, &x, refl(alloc, &x))?;
             }
         }
         Ok(())

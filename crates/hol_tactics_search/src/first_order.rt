@@ -104,7 +104,7 @@ impl Terms {
 
     // The number of a type, which is added if it is new.
     fn number_of_type(&mut self, alloc: Global, ty: &Ty) -> Result<usize, HostFail> {
-        if let Some(number) = place_of_type(&self.types, ty) {
+        if let Some(number) = self.types.iter().position(|known| known.eq(ty)) {
             return Ok(number);
         }
         let number = self.types.len();
@@ -325,27 +325,15 @@ pub fn place_of(numbers: &[usize], number: usize) -> Option<usize> {
     numbers.iter().position(|other| *other == number)
 }
 
-fn place_of_type(types: &[Ty], ty: &Ty) -> Option<usize> {
-    types.iter().position(|known| known.eq(ty))
-}
-
+// The place of the symbol that stands for this term, up to the names of bound variables, with so many parameters.
 fn place_of_symbol(symbols: &[Symbol], term: &Term, parameters: usize) -> Option<usize> {
-    symbols
-        .iter()
-        .position(|symbol| symbol.is_known(term, parameters))
-}
-
-impl Symbol {
-    // Whether it stands for this term, up to the names of bound variables, with so many parameters.
-    fn is_known(&self, term: &Term, parameters: usize) -> bool {
-        match self {
-            Symbol::Known {
-                term: known,
-                parameters: count,
-            } => *count == parameters && aconv(known, term),
-            Symbol::Witness { .. } => false,
-        }
-    }
+    symbols.iter().position(|symbol| match symbol {
+        Symbol::Known {
+            term: known,
+            parameters: count,
+        } => *count == parameters && aconv(known, term),
+        Symbol::Witness { .. } => false,
+    })
 }
 
 // The innermost binder of a variable.

@@ -1,6 +1,6 @@
 // The literals of clauses, by the symbols at the heads of their atoms.
 
-use crate::problem::{Clause, Problem};
+use crate::problem::Problem;
 use hol_host::HostFail;
 use std::alloc::Global;
 
@@ -57,7 +57,11 @@ impl Index {
             rows,
             all: Row::new(alloc),
         };
-        for others in 0..longest(problem) {
+        let mut longest = 0;
+        for clause in &problem.clauses {
+            longest = longest.max(clause.literals.len());
+        }
+        for others in 0..longest {
             index.add_clauses(problem, others)?;
         }
         Ok(index)
@@ -66,27 +70,18 @@ impl Index {
     // Adds the clauses of one literal and so many others.
     fn add_clauses(&mut self, problem: &Problem, others: usize) -> Result<(), HostFail> {
         for (number, clause) in problem.clauses.iter().enumerate() {
-            if clause.literals.len().checked_sub(1) == Some(others) {
-                self.add_clause(problem, number, clause)?;
+            if clause.literals.len().checked_sub(1) != Some(others) {
+                continue;
             }
-        }
-        Ok(())
-    }
-
-    fn add_clause(
-        &mut self,
-        problem: &Problem,
-        number: usize,
-        clause: &Clause,
-    ) -> Result<(), HostFail> {
-        for (place, literal) in clause.literals.iter().enumerate() {
-            let entry = Entry {
-                clause: number,
-                literal: place,
-                atom: literal.atom,
-                others: clause.literals.len().saturating_sub(1),
-            };
-            self.add(entry, problem.terms.head(literal.atom), literal.positive)?;
+            for (place, literal) in clause.literals.iter().enumerate() {
+                let entry = Entry {
+                    clause: number,
+                    literal: place,
+                    atom: literal.atom,
+                    others,
+                };
+                self.add(entry, problem.terms.head(literal.atom), literal.positive)?;
+            }
         }
         Ok(())
     }
@@ -115,26 +110,13 @@ impl Index {
 
     /// The literals that may contradict one of this sign with this symbol at its head, or with a variable.
     pub(crate) fn against(&self, head: Option<(usize, u32)>, positive: bool) -> &[Entry] {
-        let row = self.row(head);
-        if positive { &row.denied } else { &row.affirmed }
-    }
-
-    fn row(&self, head: Option<(usize, u32)>) -> &Row {
-        match head {
+        let row = match head {
             Some((symbol, _)) => match self.rows.get(symbol) {
                 Some(row) => row,
                 None => &self.all,
             },
             None => &self.all,
-        }
+        };
+        if positive { &row.denied } else { &row.affirmed }
     }
-}
-
-// How many literals the longest clause has.
-fn longest(problem: &Problem) -> usize {
-    let mut longest = 0;
-    for clause in &problem.clauses {
-        longest = longest.max(clause.literals.len());
-    }
-    longest
 }

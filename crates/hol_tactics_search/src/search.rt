@@ -165,7 +165,15 @@ pub fn find_refutation(
     comparisons: &mut u32,
 ) -> Result<Refutation, HostFail> {
     let index = Index::of(alloc, problem)?;
-    Search::new(alloc, problem, &index, *comparisons).refutation(alloc, comparisons)
+    let mut search = Search::new(alloc, problem, &index, *comparisons);
+    let start = search.deepened()?;
+    let moves = search.in_order(alloc, start)?;
+    *comparisons = comparisons.saturating_sub(search.bindings.spent);
+    Ok(Refutation {
+        start,
+        moves,
+        bindings: search.bindings,
+    })
 }
 
 // Whether each literal of a clause is denied: among those that cannot hold together there is such a clause.
@@ -192,18 +200,6 @@ impl<'a> Search<'a> {
         }
     }
 
-    // The refutation. What was compared is taken from the comparisons.
-    fn refutation(mut self, alloc: Global, comparisons: &mut u32) -> Result<Refutation, HostFail> {
-        let start = self.deepened()?;
-        let moves = self.in_order(alloc, start)?;
-        *comparisons = comparisons.saturating_sub(self.bindings.spent());
-        Ok(Refutation {
-            start,
-            moves,
-            bindings: self.bindings,
-        })
-    }
-
     // The first clause of a refutation that has as few inferences as can be.
     fn deepened(&mut self) -> Result<usize, HostFail> {
         for below in 0..INFERENCES {
@@ -221,7 +217,7 @@ impl<'a> Search<'a> {
     }
 
     fn is_spent(&self) -> bool {
-        self.bindings.spent() >= self.comparisons
+        self.bindings.spent >= self.comparisons
     }
 
     // Whether there is a refutation that begins with a clause.
@@ -259,9 +255,12 @@ impl<'a> Search<'a> {
         self.bindings.clear();
         self.first = None;
         let base = self.instance(start)?;
-        self.add_subgoals(start, base, None)?;
-        let count = self.subgoals.len();
-        self.add_group(0, count, self.size)
+        self.add_subgoals(start, base, None, None)?;
+        let all = Run {
+            first: 0,
+            count: self.subgoals.len(),
+        };
+        self.add_group(all, self.size)
     }
 
     fn go_back(&mut self, choice: Choice) {
@@ -280,19 +279,20 @@ impl<'a> Search<'a> {
         }
     }
 
-    // Adds the literals of a clause as subgoals, without the one that a subgoal above them was met by.
+    // Adds the literals of a clause as subgoals, without the one that the subgoal above them was met by.
     fn add_subgoals(
         &mut self,
         clause: usize,
         base: usize,
-        used: Option<(usize, usize)>,
+        parent: Option<usize>,
+        used: Option<usize>,
     ) -> Result<(), HostFail> {
         let Some(clause) = self.problem.clause(clause) else {
             return Err(HostFail::Failed);
         };
         let under = self.moves.len().checked_sub(1);
         for (place, literal) in clause.literals.iter().enumerate() {
-            if !is_used(used, place) {
+            if Some(place) != used {
                 self.subgoals.push(Subgoal {
                     literal: *literal,
                     place: Place {
@@ -300,7 +300,7 @@ impl<'a> Search<'a> {
                         literal: place,
                     },
                     base,
-                    parent: parent_of(used),
+                    parent,
                 })?;
             }
         }
@@ -308,7 +308,8 @@ impl<'a> Search<'a> {
     }
 
     // Puts a group, unless it is empty, before what is to be met.
-    fn add_group(&mut self, first: usize, count: usize, limit: usize) -> Result<(), HostFail> {
+    fn add_group(&mut self, run: Run, limit: usize) -> Result<(), HostFail> {
+        let Run { first, count } = run;
         if count == 0 {
             return Ok(());
         }
@@ -365,27 +366,20 @@ impl<'a> Search<'a> {
         self.first = group.next;
         if room < ROOM {
             let (one, others) = group.cut(1);
-            return self.add_two(others, group.limit, one, group.limit);
+            self.add_group(others, group.limit)?;
+            self.add_group(one, group.limit)?;
+            return Ok(true);
         }
         let (half, others) = group.cut(group.count / 2);
-        if matches!(untried, Untried::Second) {
-            return self.add_two(half, group.limit, others, less);
-        }
-        let choice = self.choice(number, Untried::Second);
-        self.choices.push(choice)?;
-        self.add_two(others, group.limit, half, less)
-    }
-
-    // Puts a group with its limit, and another one that is met before it.
-    fn add_two(
-        &mut self,
-        last: Run,
-        limit: usize,
-        first: Run,
-        first_limit: usize,
-    ) -> Result<bool, HostFail> {
-        self.add_group(last.first, last.count, limit)?;
-        self.add_group(first.first, first.count, first_limit)?;
+        let (last, first) = if matches!(untried, Untried::Second) {
+            (half, others)
+        } else {
+            let choice = self.choice(number, Untried::Second);
+            self.choices.push(choice)?;
+            (others, half)
+        };
+        self.add_group(last, group.limit)?;
+        self.add_group(first, less)?;
         Ok(true)
     }
 
@@ -400,7 +394,7 @@ impl<'a> Search<'a> {
             if ancestor.literal.positive == subgoal.literal.positive
                 && self
                     .bindings
-                    .are_equal(&problem.terms, subgoal.atom(), ancestor.atom())?
+                    .are_equal(&problem.terms, subgoal.atom(), ancestor.atom(), false)?
             {
                 return Ok(true);
             }
@@ -459,7 +453,7 @@ impl<'a> Search<'a> {
     // Makes two atoms equal; where they cannot be, all is as it was at the mark.
     fn unify(&mut self, a: Instance, b: Instance, mark: Mark) -> Result<bool, HostFail> {
         let problem = self.problem;
-        let are_unified = self.bindings.unify(&problem.terms, a, b)?;
+        let are_unified = self.bindings.are_equal(&problem.terms, a, b, true)?;
         if !are_unified {
             self.bindings.undo(mark);
         }
@@ -476,7 +470,11 @@ impl<'a> Search<'a> {
         if self.bindings.has_set_since(choice.mark) {
             self.choices.push(choice)?;
         }
-        self.close(open, Move::Reduce)?;
+        self.moves.push(Met {
+            place: open.subgoal.place,
+            by: Move::Reduce,
+        })?;
+        self.first = open.next;
         Ok(true)
     }
 
@@ -499,19 +497,19 @@ impl<'a> Search<'a> {
             literal: entry.literal,
             base,
         };
-        self.close(open, Move::Extend(extension))?;
-        let first = self.subgoals.len();
-        self.add_subgoals(entry.clause, base, Some((open.number, entry.literal)))?;
-        self.add_group(first, entry.others, open.limit)?;
-        Ok(true)
-    }
-
-    // Notes how a subgoal was met.
-    fn close(&mut self, open: Open, by: Move) -> Result<(), HostFail> {
-        let place = open.subgoal.place;
-        self.moves.push(Met { place, by })?;
+        self.moves.push(Met {
+            place: open.subgoal.place,
+            by: Move::Extend(extension),
+        })?;
         self.first = open.next;
-        Ok(())
+        let first = self.subgoals.len();
+        self.add_subgoals(entry.clause, base, Some(open.number), Some(entry.literal))?;
+        let others = Run {
+            first,
+            count: entry.others,
+        };
+        self.add_group(others, open.limit)?;
+        Ok(true)
     }
 
     // The moves in the order of the literals that they meet, from left to right, those below a literal behind its own.
@@ -562,17 +560,5 @@ impl<'a> Search<'a> {
             }
         }
         None
-    }
-}
-
-// Whether the literal at a place is the used one, which stands behind the subgoal that was met by it.
-fn is_used(used: Option<(usize, usize)>, place: usize) -> bool {
-    matches!(used, Some((_, literal)) if literal == place)
-}
-
-fn parent_of(used: Option<(usize, usize)>) -> Option<usize> {
-    match used {
-        Some((parent, _)) => Some(parent),
-        None => None,
     }
 }

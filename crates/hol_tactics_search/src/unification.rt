@@ -32,8 +32,8 @@ pub struct Bindings {
     // What is still to be compared, and still to be searched for a variable.
     pairs: Vec<(Instance, Instance)>,
     parts: Vec<Instance>,
-    // How many pairs and parts were looked at.
-    spent: u32,
+    /// How many pairs of nodes were compared, and nodes searched for a variable.
+    pub(crate) spent: u32,
 }
 
 /// How far the values had come.
@@ -46,14 +46,6 @@ pub(crate) struct Mark {
 // The place of a variable's value.
 fn place(base: usize, number: usize) -> usize {
     base.saturating_add(number)
-}
-
-// Whether a node is the variable at a place.
-fn is_variable_at(node: Node, base: usize, at: usize) -> bool {
-    match node {
-        Node::Variable(number) => place(base, number) == at,
-        _ => false,
-    }
 }
 
 impl Bindings {
@@ -76,15 +68,6 @@ impl Bindings {
         Ok(base)
     }
 
-    /// How many pairs of nodes were compared, and nodes searched for a variable.
-    pub(crate) fn spent(&self) -> u32 {
-        self.spent
-    }
-
-    fn spend(&mut self) {
-        self.spent = self.spent.saturating_add(1);
-    }
-
     pub(crate) fn mark(&self) -> Mark {
         Mark {
             values: self.values.len(),
@@ -103,20 +86,14 @@ impl Bindings {
     /// Takes back all that was done since the mark.
     pub(crate) fn undo(&mut self, mark: Mark) {
         for at in mark.trail..self.trail.len() {
-            self.unset(at);
+            if let Some(place) = self.trail.get(at).copied() {
+                if let Some(value) = self.values.get_mut(place) {
+                    *value = None;
+                }
+            }
         }
         self.trail.truncate(mark.trail);
         self.values.truncate(mark.values);
-    }
-
-    // Takes back the value that was set at this place of the trail.
-    fn unset(&mut self, at: usize) {
-        let Some(place) = self.trail.get(at).copied() else {
-            return;
-        };
-        if let Some(value) = self.values.get_mut(place) {
-            *value = None;
-        }
     }
 
     pub(crate) fn clear(&mut self) {
@@ -126,11 +103,7 @@ impl Bindings {
 
     /// The value of an instance's variable of this number.
     pub fn value(&self, base: usize, number: usize) -> Option<Instance> {
-        self.at(place(base, number))
-    }
-
-    fn at(&self, place: usize) -> Option<Instance> {
-        match self.values.get(place) {
+        match self.values.get(place(base, number)) {
             Some(value) => *value,
             None => None,
         }
@@ -151,28 +124,9 @@ impl Bindings {
         at
     }
 
-    /// Whether two nodes are equal by the values that are set; what is too large is not.
+    /// Whether two nodes are equal by the values that are set, or, where these may be set, by values for variables; what is too large is
+    /// not. Where it answers that they are not, some may be set.
     pub(crate) fn are_equal(
-        &mut self,
-        terms: &Terms,
-        a: Instance,
-        b: Instance,
-    ) -> Result<bool, HostFail> {
-        self.meet(terms, a, b, false)
-    }
-
-    /// Makes two nodes equal by values for variables. Where it answers that they cannot be, or are too large, some may be set.
-    pub(crate) fn unify(
-        &mut self,
-        terms: &Terms,
-        a: Instance,
-        b: Instance,
-    ) -> Result<bool, HostFail> {
-        self.meet(terms, a, b, true)
-    }
-
-    // Whether two nodes are equal, by values that may be set for it or not.
-    fn meet(
         &mut self,
         terms: &Terms,
         a: Instance,
@@ -200,13 +154,13 @@ impl Bindings {
         b: Instance,
         may_set: bool,
     ) -> Result<bool, HostFail> {
-        self.spend();
+        self.spent = self.spent.saturating_add(1);
         let a = self.resolved(terms, a);
         let b = self.resolved(terms, b);
         let (left, right) = (terms.node(a.node), terms.node(b.node));
         if let Node::Variable(number) = left {
             let at = place(a.base, number);
-            if is_variable_at(right, b.base, at) {
+            if matches!(right, Node::Variable(other) if place(b.base, other) == at) {
                 return Ok(true);
             }
             return Ok(may_set && self.bind(terms, at, a, b)?);
@@ -254,7 +208,7 @@ impl Bindings {
             let Some(part) = self.parts.pop() else {
                 return Ok(false);
             };
-            self.spend();
+            self.spent = self.spent.saturating_add(1);
             let part = self.resolved(terms, part);
             match terms.node(part.node) {
                 Node::Variable(number) => {

@@ -1,20 +1,21 @@
 // Lines that tell what is said of a refusal.
-use crate::place::Place;
-use hol_explain_words::Message;
+use crate::messages::Message;
+use crate::place::Told;
 use hol_model::Fault;
 use std::alloc::Global;
 
-/// Puts a line at the end: the place in a file, the number and the name of a refusal, and what is said of it.
+/// Puts a line at the end: the place that a message on a refused command is on, the number and the name of the refusal, and what is
+/// said of it.
 pub fn push_refusal(
     alloc: Global,
-    lines: &mut Message,
-    file: &str,
-    place: &Place,
+    told: &Told<'_>,
     fault: &Fault,
     message: &Message,
+    lines: &mut Message,
 ) {
-    let line = place.line;
-    let column = place.column;
+    let (file, here) = told.located(message.at);
+    let line = here.line;
+    let column = here.column;
     let number = fault.number();
     let name = fault.name();
     lines.push_made(format!(in alloc; "{file}:{line}:{column}: E{number} {name}: "));

@@ -1,6 +1,7 @@
 // Refiner expressions: their parts, and what stands behind their joints.
+use crate::messages::Message;
+use crate::piece::{Piece, between};
 use crate::span::{Span, next_outside};
-use hol_explain_words::{Message, Piece, between};
 use std::alloc::Global;
 
 const JOINTS: (&str, &str) = ("THEN", "THENL");
@@ -51,46 +52,38 @@ fn member_at(piece: &Piece<'_>, from: usize, to: usize) -> Span {
     }
 }
 
-// How many members the list has whose first begins at a place.
-fn count_of_members(piece: &Piece<'_>, from: usize, to: usize) -> usize {
-    if piece.text(from) == "]" {
-        return 0;
+/// Whether behind a joint stands a list, and not one member for each of so many subgoals.
+pub fn has_misfit(piece: &Piece<'_>, behind: Span, subgoals: usize) -> bool {
+    let first = behind.from.saturating_add(2);
+    if piece.text(behind.from) != "THENL" {
+        return false;
+    }
+    if piece.text(first) == "]" {
+        return subgoals != 0;
     }
     let mut members = 1usize;
-    let mut member = member_at(piece, from, to);
+    let mut member = member_at(piece, first, behind.to);
     for _ in 0..piece.words.len() {
         if piece.text(member.to) != ";" {
             break;
         }
         members = members.saturating_add(1);
-        member = member_at(piece, member.to.saturating_add(1), to);
+        member = member_at(piece, member.to.saturating_add(1), behind.to);
     }
-    members
+    members != subgoals
 }
 
-/// Whether behind a joint stands a list, and not one member for each of so many subgoals.
-pub fn has_misfit(piece: &Piece<'_>, behind: Span, subgoals: usize) -> bool {
-    piece.text(behind.from) == "THENL"
-        && count_of_members(piece, behind.from.saturating_add(2), behind.to) != subgoals
-}
-
-/// The refiner for the first subgoal behind a joint.
-pub fn first_member(piece: &Piece<'_>, behind: Span) -> Span {
-    if piece.text(behind.from) == "THENL" {
-        member_at(piece, behind.from.saturating_add(2), behind.to)
-    } else {
-        Span {
+/// The refiner for the first subgoal behind a joint, or for the next one behind that of the subgoal before it: the next member of a
+/// list, or the same for each.
+pub fn next_member(piece: &Piece<'_>, behind: Span, before: Option<Span>) -> Span {
+    let is_list = piece.text(behind.from) == "THENL";
+    match before {
+        Some(member) if is_list => member_at(piece, member.to.saturating_add(1), behind.to),
+        Some(member) => member,
+        None if is_list => member_at(piece, behind.from.saturating_add(2), behind.to),
+        None => Span {
             from: behind.from.saturating_add(1),
             to: behind.to,
-        }
-    }
-}
-
-/// The refiner for the next subgoal, behind the refiner for this one: the next member of a list, or the same.
-pub fn next_member(piece: &Piece<'_>, behind: Span, member: Span) -> Span {
-    if piece.text(behind.from) == "THENL" {
-        member_at(piece, member.to.saturating_add(1), behind.to)
-    } else {
-        member
+        },
     }
 }

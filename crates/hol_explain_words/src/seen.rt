@@ -1,6 +1,16 @@
 // Variables that a goal shows with their types.
-use crate::names::type_depth;
-use hol_explain_words::{Piece, between, text_of};
+use crate::piece::{Piece, between, text_of};
+
+/// How many parentheses are open in a type behind a word, with one for the colon before it; none outside of types.
+pub fn type_depth(before: usize, word: &str) -> usize {
+    match word {
+        ":" if before == 0 => 1,
+        "(" if before > 0 => before.saturating_add(1),
+        ")" if before > 1 => before.saturating_sub(1),
+        ")" | "]" | "." => 0,
+        _ => before,
+    }
+}
 
 // The place in the list of the word behind the type that begins at another.
 fn end_of_type(goal: &Piece<'_>, from: usize) -> usize {
@@ -15,7 +25,7 @@ fn end_of_type(goal: &Piece<'_>, from: usize) -> usize {
 }
 
 /// The type that a goal shows first of a variable of a name.
-pub(crate) fn type_in<'a>(goal: &'a Piece<'a>, name: &str) -> Option<&'a str> {
+pub fn type_in<'a>(goal: &'a Piece<'a>, name: &str) -> Option<&'a str> {
     for at in 0..goal.words.len() {
         if goal.text(at) == name && goal.text(at.saturating_add(1)) == ":" {
             let from = at.saturating_add(2);

@@ -1,0 +1,146 @@
+// A command of a script, and what it came to, as a line of JSON.
+use crate::messages::Message;
+use crate::place::Told;
+use hol_model::Fault;
+use serde::Serialize;
+use serde_json::to_string;
+use std::alloc::Global;
+
+#[derive(Clone, Copy, Serialize)]
+struct Point {
+    line: usize,
+    column: usize,
+}
+
+#[derive(Drop, Serialize)]
+struct Goal<'a> {
+    assumptions: Vec<&'a str>,
+    conclusion: &'a str,
+}
+
+#[derive(Drop, Serialize)]
+struct Refusal<'a> {
+    number: u8,
+    name: &'a str,
+    line: usize,
+    column: usize,
+    message: &'a str,
+}
+
+#[derive(Drop, Serialize)]
+struct Record<'a> {
+    file: &'a str,
+    begin: Point,
+    end: Point,
+    command: &'a str,
+    text: &'a str,
+    goals: Option<Vec<Goal<'a>>>,
+    refusal: Option<Refusal<'a>>,
+}
+
+impl Told<'_> {
+    // What is told of it, behind what it printed.
+    fn record<'a>(
+        &'a self,
+        text: &'a str,
+        goals: Option<Vec<Goal<'a>>>,
+        refusal: Option<Refusal<'a>>,
+    ) -> Record<'a> {
+        let start = self.piece.start(0);
+        let end = self.place.behind(self.piece.bytes).behind(self.mark);
+        let (file, first) = self.located(start);
+        let lines_before = self.place_at(start).line.saturating_sub(first.line);
+        Record {
+            file,
+            begin: Point {
+                line: first.line,
+                column: first.column,
+            },
+            end: Point {
+                line: end.line.saturating_sub(lines_before),
+                column: end.column,
+            },
+            command: self.piece.text(0),
+            text,
+            goals,
+            refusal,
+        }
+    }
+}
+
+// A goal, from its line.
+fn goal_of<'a>(alloc: Global, line: &'a str, lines: &mut Message) -> Goal<'a> {
+    let (before, conclusion) = match line.split_once("?- ") {
+        Some(parts) => parts,
+        None => ("", line),
+    };
+    let mut assumptions = Vec::new(alloc);
+    for assumption in before.trim_end().split(", ") {
+        if !assumption.is_empty() {
+            let _pushed = lines.made(assumptions.push(assumption));
+        }
+    }
+    Goal {
+        assumptions,
+        conclusion,
+    }
+}
+
+// Puts a record at the end, as a line.
+fn push_record(alloc: Global, record: &Record<'_>, lines: &mut Message) {
+    lines.push_made(to_string(alloc, record));
+    lines.push_str("\n");
+}
+
+/// What an accepted command printed: where that is the open goals, a line that counts them, and a line for each.
+#[derive(Clone, Copy)]
+pub struct Answer<'a> {
+    pub text: &'a str,
+    pub shows_goals: bool,
+}
+
+/// Puts the line of a command at the end that is accepted.
+pub fn push_accepted<'a>(
+    alloc: Global,
+    told: &'a Told<'a>,
+    answer: Answer<'a>,
+    lines: &mut Message,
+) {
+    if !answer.shows_goals {
+        push_record(alloc, &told.record(answer.text, None, None), lines);
+        return;
+    }
+    let mut goals = Vec::new(alloc);
+    for line in answer.text.lines().skip(1) {
+        let goal = goal_of(alloc, line, lines);
+        let _pushed = lines.made(goals.push(goal));
+    }
+    push_record(alloc, &told.record(answer.text, Some(goals), None), lines);
+}
+
+/// Puts the line of a command at the end that is refused, with what is said of it. Behind the name of the refusal a run prints a row.
+pub fn push_refused<'a>(
+    alloc: Global,
+    told: &'a Told<'a>,
+    refused: (&'a Fault, &str),
+    message: &'a Message,
+    lines: &mut Message,
+) {
+    let (fault, row) = refused;
+    let line = told.place_at(told.piece.start(0)).line;
+    let number = fault.number();
+    let name = fault.name();
+    let printed = format!(in alloc; "line {line}: E{number} {name}{row}\n");
+    let (Some(said), Some(text)) = (lines.made(message.text()), lines.made(printed)) else {
+        return;
+    };
+    let (_file, here) = told.located(message.at);
+    let refusal = Refusal {
+        number,
+        name,
+        line: here.line,
+        column: here.column,
+        message: said,
+    };
+    push_record(alloc, &told.record(&text, None, Some(refusal)), lines);
+}
