@@ -2,3 +2,5 @@ pub mod Faults
 pub mod KnownRules
 pub mod Laws
 pub mod SessionRefusals
+pub mod SmallConversions
+pub mod SmallLaws

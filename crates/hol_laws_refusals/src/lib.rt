@@ -5,6 +5,7 @@
 
 ghost use Rattle.hol_model.specs.Refining.HostFunctions.{HostConversions, Host};
 ghost use Rattle.hol_laws_refusals.specs.Laws.{ConversionsRefuse, RewritingRefuses, RefinersRefuse, ExpressionsHaveKnownRules};
+ghost use Rattle.hol_laws_refusals.specs.SmallLaws.{SmallConversionsFit};
 ghost use Rattle.hol_laws_refusals.specs.SessionRefusals.{ExpandingRefuses, ConvertingRefuses};
 
 /// A host with conversions.
@@ -20,6 +21,11 @@ pub trait Refining {
 /// What a conversion on a known term is refused for is one of its refusals, whatever a host's conversions answer.
 pub fn conversions_refuse<C: Converting>()
     ensures { ConversionsRefuse C.conversions }
+{}
+
+/// A conversion that meets what is small alone is not refused as too large, whatever a host's conversions answer.
+pub fn small_conversions_fit<C: Converting>()
+    ensures { SmallConversionsFit C.conversions }
 {}
 
 /// Rewriting everywhere in a known term is refused for want of steps, of memory or of room, and for a limit that is passed.
