@@ -10,3 +10,4 @@ pub mod TreeRules
 pub mod SessionRefusals
 pub mod SmallLimits
 pub mod SmallAnswers
+pub mod SmallRefinements

@@ -71,7 +71,7 @@ good-unless : (test : Bool) (fault : Fault) (next : Result Theorem Fault) → Is
 good-unless true fault next none good = good
 good-unless false fault next none good = none
 
-no-limit-unknown : (theory : Theory) (t : NamedTerm) (fault : Fault) → first_unknown theory t ≡ Some fault → IsNoLimit fault
+pub no-limit-unknown : (theory : Theory) (t : NamedTerm) (fault : Fault) → first_unknown theory t ≡ Some fault → IsNoLimit fault
 no-limit-unknown theory t fault is = go (knows_types theory t) (knows_constants theory t) (has_instances theory t) is
   where
     go : (a b c : Bool) → (if not a then Some UnknownType else (if not b then Some UnknownConst else (if not c then Some NotInstance else None))) ≡ Some fault → IsNoLimit fault
@@ -267,7 +267,7 @@ module _ (theory : Theory) where
   host-fits store t answered (Err refusal) room (inr (inl is)) = is-no-limit refusal Memory is tt
   host-fits store t answered (Err refusal) room (inr (inr is)) = let none = is.1 in cc
 
-  rules-fit : (theorem : Theorem) (fault : Fault) → IsSmallTheorem theorem → AnswersRules theorem (Err fault) → IsNoLimit fault
+  pub rules-fit : (theorem : Theorem) (fault : Fault) → IsSmallTheorem theorem → AnswersRules theorem (Err fault) → IsNoLimit fault
   rules-fit theorem fault small (inl is) = is-no-limit fault Memory is tt
   rules-fit theorem fault small (inr is) = let none = is.1 in cc
 

@@ -1,5 +1,7 @@
 -- Equations of small terms, and of what is put together of two of them, are within the limits.
-use Rattle.std.proofs.Common.{◌≡◌, ℕ, zero, suc, ◌≤◌, List, [], ◌∷◌, Bool, true, false, ◌&&◌, refl, subst, arith, Option, Some, None, nat_le, if◌then◌else◌}
+use Rattle.std.proofs.Common.{◌≡◌, ℕ, zero, suc, ◌≤◌, List, [], ◌∷◌, ◌++◌, length, Bool, true, false, ◌&&◌, refl, sym, ◌∙◌, ap, subst, if◌then◌else◌, arith, Option, Some, None, nat_le, if◌then◌else◌}
+use Rattle.std.specs.Prelude.{nat_eq}
+use Rattle.std.specs.Cmp.{unsigned_Decides}
 use Rattle.std.specs.Option.{option_map, option_map_or}
 use Rattle.std.proofs.lemmas.Bool.{leb-true, le-leb}
 use Rattle.hol_model.specs.declared.limits.TheConstants.{TYPE_NODES_LIMIT, TERM_NODES_LIMIT, TERM_HEIGHT_LIMIT}
@@ -7,7 +9,8 @@ use Rattle.hol_model.specs.Terms.HolType.{HolType, bool_type, function_type, cod
 use Rattle.hol_model.specs.Terms.NamedTerm.{NamedTerm, variable, constant, combination, abstraction, Binder, same_variable, type_of, equality, equation, height, nodes, type_fits, some_type_fits, types_fit, is_within_limits}
 use Rattle.hol_model.specs.Terms.Nameless.{Nameless, free, const, bound, app, lam, image, image_under, variable_image, binder_index, binder_type, nameless_type}
 use Rattle.hol_model.specs.Terms.Measures.{nameless_height, nameless_nodes, nameless_types_fit, nameless_within_limits}
-use Rattle.hol_model.specs.Logic.Theory.{equality_type}
+use Rattle.hol_model.specs.Terms.Substitution.{fill_at, fill}
+use Rattle.hol_model.specs.Logic.Theory.{equality_name, equality_type}
 use Rattle.hol_model.specs.Logic.Derivable.{nameless_equation}
 use Rattle.hol_model.specs.Derived.DerivedRules.{ROOMY_HEIGHT, ROOMY_NODES, ROOMY_TYPE_NODES, is_roomy_type, has_roomy_types, is_roomy}
 use Rattle.hol_model.specs.Rewrites.SmallTerms.{SMALL_HEIGHT, SMALL_NODES, SMALL_TYPE_NODES, is_small_type, has_small_types, is_small}
@@ -216,6 +219,11 @@ measures t small =
     let two : (h && n) ≡ true = first_of_both (h && n) (has_small_types [] t) small in
     record { height_is = leb-true _ _ (first_of_both h n two); nodes_are = leb-true _ _ (second_of_both h n two); types = second_of_both (h && n) (has_small_types [] t) small }
 
+is-small : (t : Nameless) → nameless_height t ≤ SMALL_HEIGHT → nameless_nodes t ≤ SMALL_NODES → has_small_types [] t ≡ true → is_small t ≡ true
+is-small t tall many types =
+    both (nat_le (nameless_height t) SMALL_HEIGHT && nat_le (nameless_nodes t) SMALL_NODES) (has_small_types [] t)
+    (both (nat_le (nameless_height t) SMALL_HEIGHT) (nat_le (nameless_nodes t) SMALL_NODES) (le-leb _ _ tall) (le-leb _ _ many)) types
+
 pub small-whole-type : (t : Nameless) → is_small t ≡ true → type_nodes (nameless_type [] t) ≤ SMALL_TYPE_NODES
 small-whole-type t small = let has = measures t small in small-type [] t tt has.types
 
@@ -224,13 +232,8 @@ small-parts f x small =
     let whole = measures (app f x) small in
     let tall = whole.height_is in
     let many = whole.nodes_are in
-    (built f (omega arith) (omega arith) (first_of_both (has_small_types [] f) (has_small_types [] x) whole.types),
-    built x (omega arith) (omega arith) (second_of_both (has_small_types [] f) (has_small_types [] x) whole.types))
-  where
-    built : (t : Nameless) → nameless_height t ≤ SMALL_HEIGHT → nameless_nodes t ≤ SMALL_NODES → has_small_types [] t ≡ true → is_small t ≡ true
-    built t tall many types =
-        both (nat_le (nameless_height t) SMALL_HEIGHT && nat_le (nameless_nodes t) SMALL_NODES) (has_small_types [] t)
-        (both (nat_le (nameless_height t) SMALL_HEIGHT) (nat_le (nameless_nodes t) SMALL_NODES) (le-leb _ _ tall) (le-leb _ _ many)) types
+    (is-small f (omega arith) (omega arith) (first_of_both (has_small_types [] f) (has_small_types [] x) whole.types),
+    is-small x (omega arith) (omega arith) (second_of_both (has_small_types [] f) (has_small_types [] x) whole.types))
 
 pub small-binder-type : (ty : HolType) (body : Nameless) → is_small (lam ty body) ≡ true → type_nodes ty ≤ SMALL_TYPE_NODES
 small-binder-type ty body small =
@@ -268,18 +271,23 @@ small-roomy t small =
     let many = has.nodes_are in
     is-roomy t (omega arith) (omega arith) (types-roomy [] t has.types)
 
--- an equation of small terms
-pub equation-roomy : (ty : HolType) (x y : Nameless) → type_nodes ty ≤ SMALL_TYPE_NODES → is_small x ≡ true → is_small y ≡ true → is_roomy (nameless_equation ty x y) ≡ true
-equation-roomy ty x y few small_x small_y =
+-- two small terms under a constant
+pub joined-roomy : (name : List ℕ) (ty : HolType) (x y : Nameless) → type_nodes ty ≤ ROOMY_TYPE_NODES → is_small x ≡ true → is_small y ≡ true
+    → is_roomy (app (app (const name ty) x) y) ≡ true
+joined-roomy name ty x y few small_x small_y =
     let one = measures x small_x in
     let two = measures y small_y in
     let tall_x = one.height_is in
     let tall_y = two.height_is in
     let many_x = one.nodes_are in
     let many_y = two.nodes_are in
-    is-roomy (nameless_equation ty x y) (omega arith) (omega arith)
-    (both (is_roomy_type (equality_type ty) && has_roomy_types [] x) (has_roomy_types [] y)
-    (both (is_roomy_type (equality_type ty)) (has_roomy_types [] x) (few-roomy (equality_type ty) 203 (omega arith) (omega arith)) (types-roomy [] x one.types)) (types-roomy [] y two.types))
+    is-roomy (app (app (const name ty) x) y) (omega arith) (omega arith)
+    (both (is_roomy_type ty && has_roomy_types [] x) (has_roomy_types [] y)
+    (both (is_roomy_type ty) (has_roomy_types [] x) (le-leb _ _ few) (types-roomy [] x one.types)) (types-roomy [] y two.types))
+
+-- an equation of small terms
+pub equation-roomy : (ty : HolType) (x y : Nameless) → type_nodes ty ≤ SMALL_TYPE_NODES → is_small x ≡ true → is_small y ≡ true → is_roomy (nameless_equation ty x y) ≡ true
+equation-roomy ty x y few small_x small_y = joined-roomy equality_name (equality_type ty) x y (omega arith) small_x small_y
 
 -- what leaves room is within the limits
 types-within : (types : List HolType) (t : Nameless) → has_roomy_types types t ≡ true → nameless_types_fit types t ≡ true
@@ -309,3 +317,83 @@ roomy-within t roomy =
     both (nat_le (nameless_height t) TERM_HEIGHT_LIMIT && nat_le (nameless_nodes t) TERM_NODES_LIMIT) (nameless_types_fit [] t)
     (both (nat_le (nameless_height t) TERM_HEIGHT_LIMIT) (nat_le (nameless_nodes t) TERM_NODES_LIMIT) (le-leb _ _ low) (le-leb _ _ few))
     (types-within [] t (second_of_both (h && n) (has_roomy_types [] t) roomy))
+
+-- ---- a variable in the place of a bound one
+
+-- the type of the binder that is filled, and of the others
+filled-binder : (front : List HolType) (s : HolType) → binder_type (front ++ s ∷ []) (length front) ≡ s
+filled-binder [] s = refl
+filled-binder (a ∷ front) s = filled-binder front s
+
+other-binder : (front : List HolType) (s : HolType) (index : ℕ) → (index ≡ length front → ⊥) → binder_type front index ≡ binder_type (front ++ s ∷ []) index
+other-binder [] s zero other = absurd (other refl)
+other-binder [] s (suc index) other = refl
+other-binder (a ∷ front) s zero other = refl
+other-binder (a ∷ front) s (suc index) other = other-binder front s index (λ is. other (ap suc is))
+
+filled-height : (new : Nameless) (passed : ℕ) (t : Nameless) → nameless_height new ≡ 1 → nameless_height (fill_at passed new t) ≡ nameless_height t
+filled-height new passed (free name ty) one = refl
+filled-height new passed (const name ty) one = refl
+filled-height new passed (bound index) one = go (nat_eq index passed)
+  where
+    go : (test : Bool) → nameless_height (if test then new else bound index) ≡ 1
+    go true = one
+    go false = refl
+filled-height new passed (app f x) one = rw (filled-height new passed f one, filled-height new passed x one) refl
+filled-height new passed (lam ty body) one = rw (filled-height new (suc passed) body one) refl
+
+filled-nodes : (new : Nameless) (passed : ℕ) (t : Nameless) → nameless_nodes new ≡ 1 → nameless_nodes (fill_at passed new t) ≡ nameless_nodes t
+filled-nodes new passed (free name ty) one = refl
+filled-nodes new passed (const name ty) one = refl
+filled-nodes new passed (bound index) one = go (nat_eq index passed)
+  where
+    go : (test : Bool) → nameless_nodes (if test then new else bound index) ≡ 1
+    go true = one
+    go false = refl
+filled-nodes new passed (app f x) one = rw (filled-nodes new passed f one, filled-nodes new passed x one) refl
+filled-nodes new passed (lam ty body) one = rw (filled-nodes new (suc passed) body one) refl
+
+filled-type : (front : List HolType) (name : List ℕ) (s : HolType) (t : Nameless) → nameless_type front (fill_at (length front) (free name s) t) ≡ nameless_type (front ++ s ∷ []) t
+filled-type front name s (free other ty) = refl
+filled-type front name s (const other ty) = refl
+filled-type front name s (bound index) = go (nat_eq index (length front)) refl
+  where
+    go : (test : Bool) → nat_eq index (length front) ≡ test → nameless_type front (if test then free name s else bound index) ≡ binder_type (front ++ s ∷ []) index
+    go true tested = sym (ap (binder_type (front ++ s ∷ [])) ((unsigned_Decides index (length front)).0 tested) ∙ filled-binder front s)
+    go false tested = other-binder front s index (λ is. let passed = (unsigned_Decides index (length front)).1 is in cc)
+filled-type front name s (app f x) = ap codomain_of (filled-type front name s f)
+filled-type front name s (lam ty body) = ap (λ c. function_type ty c) (filled-type (ty ∷ front) name s body)
+
+filled-types : (front : List HolType) (name : List ℕ) (s : HolType) (t : Nameless) → is_small_type s ≡ true → has_small_types (front ++ s ∷ []) t ≡ true
+    → has_small_types front (fill_at (length front) (free name s) t) ≡ true
+filled-types front name s (free other ty) few small = small
+filled-types front name s (const other ty) few small = small
+filled-types front name s (bound index) few small = go (nat_eq index (length front))
+  where
+    go : (test : Bool) → has_small_types front (if test then free name s else bound index) ≡ true
+    go true = few
+    go false = refl
+filled-types front name s (app f x) few small =
+    let p = has_small_types (front ++ s ∷ []) f in
+    let q = has_small_types (front ++ s ∷ []) x in
+    both (has_small_types front (fill_at (length front) (free name s) f)) (has_small_types front (fill_at (length front) (free name s) x))
+    (filled-types front name s f few (first_of_both p q small)) (filled-types front name s x few (second_of_both p q small))
+filled-types front name s (lam ty body) few small =
+    let filled = fill_at (length (ty ∷ front)) (free name s) body in
+    let p = has_small_types (ty ∷ front ++ s ∷ []) body in
+    let q = is_small_type (function_type ty (nameless_type (ty ∷ front ++ s ∷ []) body)) in
+    both (has_small_types (ty ∷ front) filled) (is_small_type (function_type ty (nameless_type (ty ∷ front) filled)))
+    (filled-types (ty ∷ front) name s body few (first_of_both p q small))
+    (ap (λ c. is_small_type (function_type ty c)) (filled-type (ty ∷ front) name s body) ∙ second_of_both p q small)
+
+pub filled-small : (name : List ℕ) (s : HolType) (body : Nameless) → is_small (lam s body) ≡ true → is_small (fill (free name s) body) ≡ true
+filled-small name s body small =
+    let whole = measures (lam s body) small in
+    let tall = whole.height_is in
+    let many = whole.nodes_are in
+    let height_is = filled-height (free name s) 0 body refl in
+    let nodes_are = filled-nodes (free name s) 0 body refl in
+    let few : type_nodes s ≤ SMALL_TYPE_NODES = small-binder-type s body small in
+    is-small (fill (free name s) body) (omega arith) (omega arith)
+    (filled-types [] name s body (le-leb _ _ few)
+    (first_of_both (has_small_types (s ∷ []) body) (is_small_type (function_type s (nameless_type (s ∷ []) body))) whole.types))

@@ -4,3 +4,4 @@ pub mod Laws
 pub mod SessionRefusals
 pub mod SmallConversions
 pub mod SmallLaws
+pub mod SmallRefiners

@@ -5,7 +5,7 @@
 
 ghost use Rattle.hol_model.specs.Refining.HostFunctions.{HostConversions, Host};
 ghost use Rattle.hol_laws_refusals.specs.Laws.{ConversionsRefuse, RewritingRefuses, RefinersRefuse, ExpressionsHaveKnownRules};
-ghost use Rattle.hol_laws_refusals.specs.SmallLaws.{SmallConversionsFit};
+ghost use Rattle.hol_laws_refusals.specs.SmallLaws.{SmallConversionsFit, SmallRefinersFit};
 ghost use Rattle.hol_laws_refusals.specs.SessionRefusals.{ExpandingRefuses, ConvertingRefuses};
 
 /// A host with conversions.
@@ -36,6 +36,11 @@ pub fn rewriting_refuses<C: Converting>()
 /// What a refiner expression for a known goal is refused for is one of its refusals, whatever a host's functions answer.
 pub fn refiners_refuse<R: Refining>()
     ensures { RefinersRefuse R.host }
+{}
+
+/// A refiner expression that meets what is small alone is not refused as too large, whatever a host's functions answer.
+pub fn small_refiners_fit<R: Refining>()
+    ensures { SmallRefinersFit R.host }
 {}
 
 /// The expressions of the program have no rules of their own, so that nothing is asked of them.
