@@ -11,3 +11,4 @@ pub mod SessionRefusals
 pub mod SmallLimits
 pub mod SmallAnswers
 pub mod SmallRefinements
+pub mod SmallExpansions

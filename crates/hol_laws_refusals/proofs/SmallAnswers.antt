@@ -99,7 +99,7 @@ module _ (theory : Theory) where
 
   -- ---- rules
 
-  refl-good : (t : NamedTerm) → is_small (image t) ≡ true → IsGood (refl_outcome theory t)
+  pub refl-good : (t : NamedTerm) → is_small (image t) ≡ true → IsGood (refl_outcome theory t)
   refl-good t small = go (first_unknown theory t) refl
     where
       go : (found : Option Fault) → first_unknown theory t ≡ found → IsGood (refused found (concluded theory [] (equation t t)))

@@ -41,7 +41,7 @@ use Rattle.hol_laws_refiners.proofs.Later.{runs-later, runs_each-later}
 use Rattle.hol_laws_refiners.proofs.GoodSteps.{store-later}
 use Rattle.hol_laws_refusals.specs.KnownRules.{AreKnownRules, HasKnownRules, LeafHasKnownRules, TacticHasKnownRules, TacticsHaveKnownRules, LinkHasKnownRules, LinksHaveKnownRules}
 use Rattle.hol_laws_refusals.specs.SmallConversions.{IsSmallTheorem}
-use Rattle.hol_laws_refusals.specs.SmallRefiners.{IsSmallGoal, IsSmallIfThere, AreSmallTheorems, TakesSmall, RunsSmall, GoesOnSmall, EachRunsSmall}
+use Rattle.hol_laws_refusals.specs.SmallRefiners.{IsSmallGoal, IsSmallIfThere, AreSmallTheorems, TakesSmall, RunsSmall, LinksRunSmall, EachRunsSmall}
 use Rattle.hol_laws_refusals.specs.SmallLaws.{SmallRefinersFit}
 use Rattle.hol_laws_refusals.proofs.Known.{same_pair, theorem-known}
 use Rattle.hol_laws_refusals.proofs.RulesOf.{rules-known}
@@ -121,15 +121,15 @@ implication-within p q small_p small_q = roomy-within (image (implication p q)) 
 
 -- ---- the table
 
-fits-given : {A B : Type 0} (found : Option A) (fault : Fault) (next : A → Result B Fault) → IsNoLimit fault → ((x : A) → found ≡ Some x → Fits (next x)) → Fits (given found fault next)
+pub fits-given : {A B : Type 0} (found : Option A) (fault : Fault) (next : A → Result B Fault) → IsNoLimit fault → ((x : A) → found ≡ Some x → Fits (next x)) → Fits (given found fault next)
 fits-given {A = A} {B = B} None fault next none fits = none
 fits-given {A = A} {B = B} (Some x) fault next none fits = fits x refl
 
-fits-test : {A : Type 0} (test : Bool) (fault : Fault) (next : Result A Fault) → IsNoLimit fault → (test ≡ true → Fits next) → Fits (unless test fault next)
+pub fits-test : {A : Type 0} (test : Bool) (fault : Fault) (next : Result A Fault) → IsNoLimit fault → (test ≡ true → Fits next) → Fits (unless test fault next)
 fits-test {A = A} true fault next none fits = fits refl
 fits-test {A = A} false fault next none fits = none
 
-fits-refused : {A : Type 0} (found : Option Fault) (next : Result A Fault) → ((fault : Fault) → found ≡ Some fault → IsNoLimit fault) → Fits next → Fits (refused found next)
+pub fits-refused : {A : Type 0} (found : Option Fault) (next : Result A Fault) → ((fault : Fault) → found ≡ Some fault → IsNoLimit fault) → Fits next → Fits (refused found next)
 fits-refused {A = A} None next none fits = fits
 fits-refused {A = A} (Some fault) next none fits = none fault refl
 
@@ -198,7 +198,7 @@ falsity-no-limit term fault is = go (nat_le (length (atoms_of term)) ATOMS_LIMIT
     go true (Some row) is = let same : NotTautology (length (atoms_of term)) (row_in_full row) ≡ fault = cc in subst IsNoLimit same tt
     go false row is = let same : TooManyAtoms ≡ fault = cc in subst IsNoLimit same tt
 
-want-fits : (fault : Fault) (room : Bool) → room ≡ true → IsWant fault room → IsNoLimit fault
+pub want-fits : (fault : Fault) (room : Bool) → room ≡ true → IsWant fault room → IsNoLimit fault
 want-fits fault room there (inl is) = is-no-limit fault Memory is tt
 want-fits fault room there (inr is) = let none = is.1 in cc
 
@@ -333,7 +333,7 @@ module _ (theory : Theory) (has : HasLogic theory) where
 
   module _ (host : Host) where
     mutual
-      runs-fit : {before after : Stage} {t : Tactic} {goal : Goal} {answer : Result Step Fault} → (r : Runs theory host before t goal answer after)
+      pub runs-fit : {before after : Stage} {t : Tactic} {goal : Goal} {answer : Result Step Fault} → (r : Runs theory host before t goal answer after)
           → IsStoreOver theory before.store → TacticHasKnownRules theory t → RunsSmall theory host r → Fits answer
       runs-fit (tac.no_step_is_left spends) over h small = tt
       runs-fit (tac.leaf_refines {store} {l} {goal} {answer} there is) over h small = answers-fit theory store l goal answer small.0 small.1 is
@@ -357,7 +357,7 @@ module _ (theory : Theory) (has : HasLogic theory) where
       runs-fit (tac.finds_no_memory later) over h small = tt
 
       runs_on-fit : {before after : Stage} {step : Step} {links : Links} {answer : Result Step Fault} → (r : RunsOn theory host before step links answer after)
-          → IsStoreOver theory before.store → LinksHaveKnownRules theory links → GoesOnSmall theory host r → Fits answer
+          → IsStoreOver theory before.store → LinksHaveKnownRules theory links → LinksRunSmall theory host r → Fits answer
       runs_on-fit tac.ends over h small = tt
       runs_on-fit (tac.lengths_differ differ) over h small = tt
       runs_on-fit (tac.next_is_refused {step} {l} {tasks} is r) over h small = runs_each-fit r over (tasks-known l step.goals tasks is h.0) small

@@ -5,3 +5,4 @@ pub mod SessionRefusals
 pub mod SmallConversions
 pub mod SmallLaws
 pub mod SmallRefiners
+pub mod SmallGoals

@@ -53,7 +53,7 @@ module _ (theory : Theory) (host : Host) where
     -- the host's step leaves room
     RunsSmall {goal = goal} (run.host_refines {store} answered named says answers) = IsSmallGoal goal × (has_room_for_step theory store answered ≡ true)
     RunsSmall (run.first_is_refused r) = RunsSmall r
-    RunsSmall (run.first_goes_on r s) = RunsSmall r × GoesOnSmall s
+    RunsSmall (run.first_goes_on r s) = RunsSmall r × LinksRunSmall s
     RunsSmall (run.first_answers r) = RunsSmall r
     RunsSmall (run.first_is_not_caught r uncaught) = RunsSmall r
     RunsSmall (run.last_is_refused r) = RunsSmall r
@@ -63,11 +63,11 @@ module _ (theory : Theory) (host : Host) where
     RunsSmall (run.runs_as_defined is r) = RunsSmall r
     RunsSmall {goal = goal} _ = IsSmallGoal goal
 
-    pub GoesOnSmall : {before after : Stage} {step : Step} {links : Links} {answer : Result Step Fault} → RunsOn theory host before step links answer after → Type 0
-    GoesOnSmall (run.next_is_refused is r) = EachRunsSmall r
-    GoesOnSmall (run.splice_is_too_deep is r deep) = ⊥
-    GoesOnSmall (run.next_goes_on is r fits s) = EachRunsSmall r × GoesOnSmall s
-    GoesOnSmall _ = Unit {0}
+    pub LinksRunSmall : {before after : Stage} {step : Step} {links : Links} {answer : Result Step Fault} → RunsOn theory host before step links answer after → Type 0
+    LinksRunSmall (run.next_is_refused is r) = EachRunsSmall r
+    LinksRunSmall (run.splice_is_too_deep is r deep) = ⊥
+    LinksRunSmall (run.next_goes_on is r fits s) = EachRunsSmall r × LinksRunSmall s
+    LinksRunSmall _ = Unit {0}
 
     pub EachRunsSmall : {before after : Stage} {tasks : List (Tactic × Goal)} {answer : Result (List Step) Fault} → RunsEach theory host before tasks answer after → Type 0
     EachRunsSmall (run.one_is_refused r) = RunsSmall r

@@ -5,7 +5,7 @@
 
 ghost use Rattle.hol_model.specs.Refining.HostFunctions.{HostConversions, Host};
 ghost use Rattle.hol_laws_refusals.specs.Laws.{ConversionsRefuse, RewritingRefuses, RefinersRefuse, ExpressionsHaveKnownRules};
-ghost use Rattle.hol_laws_refusals.specs.SmallLaws.{SmallConversionsFit, SmallRefinersFit};
+ghost use Rattle.hol_laws_refusals.specs.SmallLaws.{SmallConversionsFit, SmallRefinersFit, SmallGoalsFit};
 ghost use Rattle.hol_laws_refusals.specs.SessionRefusals.{ExpandingRefuses, ConvertingRefuses};
 
 /// A host with conversions.
@@ -41,6 +41,11 @@ pub fn refiners_refuse<R: Refining>()
 /// A refiner expression that meets what is small alone is not refused as too large, whatever a host's functions answer.
 pub fn small_refiners_fit<R: Refining>()
     ensures { SmallRefinersFit R.host }
+{}
+
+/// No command on goals that meets what is small alone is refused as too large, whatever a host's functions answer.
+pub fn small_goals_fit<R: Refining>()
+    ensures { SmallGoalsFit R.host }
 {}
 
 /// The expressions of the program have no rules of their own, so that nothing is asked of them.
