@@ -8,3 +8,7 @@ pub mod RefinerRefusals
 pub mod Expressions
 pub mod TreeRules
 pub mod SessionRefusals
+pub mod SmallLimits
+pub mod SmallAnswers
+pub mod SmallRefinements
+pub mod SmallExpansions
