@@ -1,5 +1,5 @@
 // Which entries of a journal the log of some theorems needs.
-ghost use Rattle.std.specs.Prelude.{◌≡◌, ◌<◌, ℕ, List, [], ◌∷◌, ◌++◌, length, false, slice_get, Some, IfOk, IfErr, OnOk, IsTrue};
+ghost use Rattle.std.specs.Prelude.{◌≡◌, ◌<◌, ℕ, List, [], ◌∷◌, ◌++◌, length, false, slice_get, Some, IfOk, IfErr, OnOk};
 ghost use Rattle.std.specs.List.{flat_map, slice_index_or};
 ghost use Rattle.hol_model.specs.Logic.Derivable.{IsMember};
 ghost use Rattle.hol_model.specs.declared.fault.Fault.TheVariants.{Memory};
@@ -10,14 +10,12 @@ ghost use Rattle.hol_journal_log.specs.Needed.{names_in_type, names_in_term, nam
 ghost use Rattle.hol_journal_log.specs.Marking as marking;
 ghost use Rattle.hol_journal_log.specs.Marking.{Marks, Notes, IsMarkedFrom};
 
-use crate::mark::mark_of;
-use crate::same::is_same;
 use hol_journal::Recorder;
 use hol_journal::entry::{Entry, Rule};
 use hol_model::Fault;
 use hol_terms::{Parts, Term};
 use hol_types::{Ty, TypeParts};
-use indexmap::{IndexMap, IndexSet};
+use indexmap::IndexSet;
 use std::alloc::Global;
 use std::marker::Model;
 
@@ -25,19 +23,15 @@ use std::marker::Model;
 #[derive(Drop)]
 struct Names<'a> {
     names: IndexSet<&'a str>,
-    // Terms whose names are noted, by the marks of these terms.
-    terms: IndexMap<u32, &'a Term>,
 }
 
 impl<'a> Model for Names<'a> {
     ghost use Rattle.std.specs.Prelude.{ℕ, List};
-    ghost use Rattle.hol_journal_log.specs.Noted.{noted_names, AreNoted};
+    ghost use Rattle.hol_journal_log.specs.Noted.{noted_names};
 
     ghost Value = { List (List ℕ) };
 
     ghost view = { noted_names };
-
-    ghost invariant = { λ inside. AreNoted (noted_names inside) inside.terms.entries };
 }
 
 impl<'a> Names<'a> {
@@ -47,7 +41,6 @@ impl<'a> Names<'a> {
     {
         Names {
             names: IndexSet::new(alloc),
-            terms: IndexMap::new(alloc),
         }
     }
 
@@ -64,31 +57,6 @@ impl<'a> Names<'a> {
         ensures err { IfErr result (λ fault. fault ≡ Memory) }
     {
         self.names.insert(name)?;
-        Ok(())
-    }
-
-    // Whether the names in a term are known to be noted.
-    fn has_names_of(&self, mark: u32, term: &Term) -> bool
-        ensures { IsTrue result → Notes self.now self.now (names_in_term term.now) }
-    {
-        match self.terms.get_full(&mark) {
-            Some((_, _, noted)) => is_same(noted, term),
-            None => false,
-        }
-    }
-
-    // Whether a term with this mark is kept.
-    fn has_mark(&self, mark: u32) -> bool {
-        self.terms.contains_key(&mark)
-    }
-
-    // Keeps a term whose names are noted.
-    fn keep(&mut self, mark: u32, term: &'a Term) -> Result<(), Fault>
-        requires { Notes self.old self.old (names_in_term term.now) }
-        ensures same { self.new ≡ self.old }
-        ensures err { IfErr result (λ fault. fault ≡ Memory) }
-    {
-        self.terms.insert(mark, term)?;
         Ok(())
     }
 }
@@ -291,17 +259,11 @@ fn note_type<'a>(ty: &'a Ty, names: &mut Names<'a>) -> Result<(), Fault>
     }
 }
 
+// Notes the names in a term. To know that a part is one whose names are noted would take a walk as long as this one.
 fn note_term<'a>(term: &'a Term, names: &mut Names<'a>) -> Result<(), Fault>
     ensures ok { OnOk result (Notes names.old names.new (names_in_term term.now)) }
     ensures err { IfErr result (λ fault. fault ≡ Memory) }
 {
-    let mark = mark_of(term);
-    if names.has_names_of(mark, term) {
-        return Ok(());
-    }
-    if names.has_mark(mark) {
-        return note_whole(mark, term, names);
-    }
     match term.parts() {
         Parts::Variable(_, ty) => note_type(ty, names),
         Parts::Constant(name, ty) => {
@@ -310,45 +272,11 @@ fn note_term<'a>(term: &'a Term, names: &mut Names<'a>) -> Result<(), Fault>
         }
         Parts::Combination(function, argument) => {
             note_term(function, names)?;
-            note_term(argument, names)?;
-            names.keep(mark, term)
+            note_term(argument, names)
         }
         Parts::Abstraction(_, ty, body) => {
             note_type(ty, names)?;
-            note_term(body, names)?;
-            names.keep(mark, term)
-        }
-    }
-}
-
-// Notes the names in a term whose mark is another term's too: its parts are not looked up whole, since each may be another's
-// but for what stands deep in it.
-fn note_whole<'a>(mark: u32, term: &'a Term, names: &mut Names<'a>) -> Result<(), Fault>
-    ensures ok { OnOk result (Notes names.old names.new (names_in_term term.now)) }
-    ensures err { IfErr result (λ fault. fault ≡ Memory) }
-{
-    note_walked(term, names)?;
-    names.keep(mark, term)
-}
-
-// Notes the names in a term, part by part.
-fn note_walked<'a>(term: &'a Term, names: &mut Names<'a>) -> Result<(), Fault>
-    ensures ok { OnOk result (Notes names.old names.new (names_in_term term.now)) }
-    ensures err { IfErr result (λ fault. fault ≡ Memory) }
-{
-    match term.parts() {
-        Parts::Variable(_, ty) => note_type(ty, names),
-        Parts::Constant(name, ty) => {
-            names.note(name)?;
-            note_type(ty, names)
-        }
-        Parts::Combination(function, argument) => {
-            note_walked(function, names)?;
-            note_walked(argument, names)
-        }
-        Parts::Abstraction(_, ty, body) => {
-            note_type(ty, names)?;
-            note_walked(body, names)
+            note_term(body, names)
         }
     }
 }

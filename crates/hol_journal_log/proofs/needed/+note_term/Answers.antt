@@ -1,33 +1,19 @@
 use Rattle.std.proofs.Common.{ap, sym}
 use Rattle.hol_journal_log.specs.Needed.{names_in_term}
-use Rattle.hol_journal_log.proofs.MarkingLemmas.{notes_two, notes_both, notes_again, notes_kept}
+use Rattle.hol_journal_log.proofs.MarkingLemmas.{notes_two}
 use Rattle.hol_journal_log.proofs.needed.+note_term.Goals as goal
-
-pub keep-requires : goal.keep-requires
-keep-requires t c =
-    notes_again c.args.names.now c.note_term-in-Combination.new.names _
-    (notes_both c.args.names.now c.note_term.new.names c.note_term-in-Combination.new.names _ _ _
-    (sym (ap names_in_term c.in-Combination.ensures.value)) c.in_ok-note_term-in-Combination.ensures.ok c.in_ok-note_term-in-Combination-2.ensures.ok)
-
-pub keep-requires-in-Abstraction : goal.keep-requires-in-Abstraction
-keep-requires-in-Abstraction t c =
-    notes_again c.args.names.now c.note_term-in-Abstraction.new.names _
-    (notes_both c.args.names.now c.note_type-in-Abstraction.new.names c.note_term-in-Abstraction.new.names _ _ _
-    (sym (ap names_in_term c.in-Abstraction.ensures.value)) c.in_ok-note_type-in-Abstraction.ensures.ok c.in_ok-note_term-in-Abstraction.ensures.ok)
 
 pub returns-in_ok-note-in-Constant-clause-ok : goal.returns-in_ok-note-in-Constant-clause-ok
 returns-in_ok-note-in-Constant-clause-ok t c =
     notes_two c.note_type-in-Constant.result c.args.names.now c.note.new.self c.note_type-in-Constant.new.names _ _ _
     (sym (ap names_in_term c.in-Constant.ensures.value)) c.in_ok-note-in-Constant.ensures.ok c.note_type-in-Constant.ensures.ok
 
-pub returns-in_ok-note_term-in-Combination-2-clause-ok : goal.returns-in_ok-note_term-in-Combination-2-clause-ok
-returns-in_ok-note_term-in-Combination-2-clause-ok t c =
-    notes_kept c.keep.result c.args.names.now c.note_term-in-Combination.new.names c.keep.new.self _ c.keep.ensures.same
-    (notes_both c.args.names.now c.note_term.new.names c.note_term-in-Combination.new.names _ _ _
-    (sym (ap names_in_term c.in-Combination.ensures.value)) c.in_ok-note_term-in-Combination.ensures.ok c.in_ok-note_term-in-Combination-2.ensures.ok)
+pub returns-in_ok-note_term-in-Combination-clause-ok : goal.returns-in_ok-note_term-in-Combination-clause-ok
+returns-in_ok-note_term-in-Combination-clause-ok t c =
+    notes_two c.note_term-in-Combination.result c.args.names.now c.note_term.new.names c.note_term-in-Combination.new.names _ _ _
+    (sym (ap names_in_term c.in-Combination.ensures.value)) c.in_ok-note_term-in-Combination.ensures.ok c.note_term-in-Combination.ensures.ok
 
-pub returns-in_ok-note_term-in-Abstraction-clause-ok : goal.returns-in_ok-note_term-in-Abstraction-clause-ok
-returns-in_ok-note_term-in-Abstraction-clause-ok t c =
-    notes_kept c.keep-in-Abstraction.result c.args.names.now c.note_term-in-Abstraction.new.names c.keep-in-Abstraction.new.self _ c.keep-in-Abstraction.ensures.same
-    (notes_both c.args.names.now c.note_type-in-Abstraction.new.names c.note_term-in-Abstraction.new.names _ _ _
-    (sym (ap names_in_term c.in-Abstraction.ensures.value)) c.in_ok-note_type-in-Abstraction.ensures.ok c.in_ok-note_term-in-Abstraction.ensures.ok)
+pub returns-in_ok-note_type-in-Abstraction-clause-ok : goal.returns-in_ok-note_type-in-Abstraction-clause-ok
+returns-in_ok-note_type-in-Abstraction-clause-ok t c =
+    notes_two c.note_term-in-Abstraction.result c.args.names.now c.note_type-in-Abstraction.new.names c.note_term-in-Abstraction.new.names _ _ _
+    (sym (ap names_in_term c.in-Abstraction.ensures.value)) c.in_ok-note_type-in-Abstraction.ensures.ok c.note_term-in-Abstraction.ensures.ok
