@@ -249,6 +249,18 @@ pub notes_two : {A E : Type 0} (answer : Result A E) (first second third : List 
 notes_two (Ok x) first second third xs ys zs is early late = subst (Notes first third) (sym is) (Notes-twice first second third xs ys early late)
 notes_two (Err e) first second third xs ys zs is early late = tt
 
+-- what is noted already
+
+pub noted_already : (names : List (List ℕ)) (name : List ℕ) → is_noted names (Some name) ≡ true → Notes names names (name ∷ [])
+noted_already names name is = record {
+  kept = λ n h. h;
+  added = λ n h. elim h [ inl same ↦ subst (λ m. IsMember m names) (sym same) (noted_member names name is) | inr none ↦ absurd none ];
+  only = λ n h. inl h;
+}
+
+pub both_noted : (names : List (List ℕ)) (xs ys zs : List (List ℕ)) → zs ≡ xs ++ ys → Notes names names xs → Notes names names ys → Notes names names zs
+both_noted names xs ys zs is early late = subst (Notes names names) (sym is) (Notes-twice names names names xs ys early late)
+
 flat_map-push : {A B : Type 0} (f : A → List B) (xs : List A) (x : A) → flat_map f (xs ++ x ∷ []) ≡ flat_map f xs ++ f x
 flat_map-push f [] x = append-nil (f x)
 flat_map-push f (y ∷ xs) x = ap (λ l. f y ++ l) (flat_map-push f xs x) ∙ sym (append_assoc (f y) (flat_map f xs) (f x))

@@ -1,5 +1,5 @@
 // Which entries of a journal the log of some theorems needs.
-ghost use Rattle.std.specs.Prelude.{◌≡◌, ◌<◌, ℕ, List, [], ◌∷◌, ◌++◌, length, false, slice_get, Some, IfOk, IfErr, OnOk};
+ghost use Rattle.std.specs.Prelude.{◌≡◌, ◌<◌, ℕ, List, [], ◌∷◌, ◌++◌, length, false, slice_get, Some, IfOk, IfErr, OnOk, IsTrue};
 ghost use Rattle.std.specs.List.{flat_map, slice_index_or};
 ghost use Rattle.hol_model.specs.Logic.Derivable.{IsMember};
 ghost use Rattle.hol_model.specs.declared.fault.Fault.TheVariants.{Memory};
@@ -58,6 +58,33 @@ impl<'a> Names<'a> {
     {
         self.names.insert(name)?;
         Ok(())
+    }
+
+    // Whether the names in a type are noted.
+    fn has_type(&self, ty: &Ty) -> bool
+        ensures { IsTrue result → Notes self.now self.now (names_in_type ty.now) }
+    {
+        match ty.parts() {
+            TypeParts::Variable(_) | TypeParts::Bool => true,
+            TypeParts::Function(domain, codomain) => {
+                self.has_type(domain) && self.has_type(codomain)
+            }
+            TypeParts::Declared(name) => self.contains(name),
+        }
+    }
+
+    // Whether the names in a term are noted.
+    fn has_term(&self, term: &Term) -> bool
+        ensures { IsTrue result → Notes self.now self.now (names_in_term term.now) }
+    {
+        match term.parts() {
+            Parts::Variable(_, ty) => self.has_type(ty),
+            Parts::Constant(name, ty) => self.contains(name) && self.has_type(ty),
+            Parts::Combination(function, argument) => {
+                self.has_term(function) && self.has_term(argument)
+            }
+            Parts::Abstraction(_, ty, body) => self.has_type(ty) && self.has_term(body),
+        }
     }
 }
 
@@ -259,8 +286,19 @@ fn note_type<'a>(ty: &'a Ty, names: &mut Names<'a>) -> Result<(), Fault>
     }
 }
 
-// Notes the names in a term. To know that a part is one whose names are noted would take a walk as long as this one.
+// Notes the names in a term. Most terms have none that is not noted yet, which is told by a walk that compares no terms.
 fn note_term<'a>(term: &'a Term, names: &mut Names<'a>) -> Result<(), Fault>
+    ensures ok { OnOk result (Notes names.old names.new (names_in_term term.now)) }
+    ensures err { IfErr result (λ fault. fault ≡ Memory) }
+{
+    if names.has_term(term) {
+        return Ok(());
+    }
+    note_parts(term, names)
+}
+
+// Notes the names in a term, part by part.
+fn note_parts<'a>(term: &'a Term, names: &mut Names<'a>) -> Result<(), Fault>
     ensures ok { OnOk result (Notes names.old names.new (names_in_term term.now)) }
     ensures err { IfErr result (λ fault. fault ≡ Memory) }
 {
@@ -271,12 +309,12 @@ fn note_term<'a>(term: &'a Term, names: &mut Names<'a>) -> Result<(), Fault>
             note_type(ty, names)
         }
         Parts::Combination(function, argument) => {
-            note_term(function, names)?;
-            note_term(argument, names)
+            note_parts(function, names)?;
+            note_parts(argument, names)
         }
         Parts::Abstraction(_, ty, body) => {
             note_type(ty, names)?;
-            note_term(body, names)
+            note_parts(body, names)
         }
     }
 }
