@@ -4,8 +4,6 @@ use Rattle.std.proofs.Common.{List, [], ◌∷◌, ◌++◌, length, Bool, true,
 use Rattle.std.specs.Prelude.{slice_get}
 use Rattle.std.specs.List.{list_any, slice_index_or, flat_map}
 use Rattle.indexmap.specs.IndexSet.{insert_key}
-use Rattle.indexmap.specs.IndexMap.{insert_entry}
-use Rattle.hol_model.specs.Terms.NamedTerm.{NamedTerm}
 use Rattle.hol_journal_log.proofs.StepLineLemmas.{both_parts-push}
 use Rattle.std.specs.Str.{bytes_eq}
 use Rattle.std.proofs.lemmas.Slice.Eq.{bytes_eq-Decides}
@@ -16,8 +14,7 @@ use Rattle.hol_model.proofs.Tests.{first_of_neither, second_of_neither}
 use Rattle.hol_journal.specs.Steps.{Step, by_refl, by_trans, by_mk_comb, by_abs, by_beta, by_assume, by_eq_mp, by_deduct, by_inst, by_inst_type}
 use Rattle.hol_journal.specs.Steps.{by_eta, by_select, by_definition, JournalEntry, derived, declared_type, declared_constant, entries_of, both_parts}
 use Rattle.hol_journal.specs.Journal.{added_by}
-use Rattle.hol_journal_log.specs.Noted.{AreNoted}
-use Rattle.hol_journal_log.specs.Needed.{names_in, names_in_term, introduced_by, IsNeeded, by_claim, by_citation, by_name, StandOnEarlier, MarksNeeded}
+use Rattle.hol_journal_log.specs.Needed.{names_in, introduced_by, IsNeeded, by_claim, by_citation, by_name, StandOnEarlier, MarksNeeded}
 use Rattle.hol_journal_log.specs.Marking.{IsMarkedAt, AreMarked, held_names, is_reached, cited_by, CitesWithin, IsEntryMarked, Marks, Notes, is_noted, IsMarkedFrom}
 
 pub Marks-twice : (first second third : List Bool) (xs ys : List ℕ) → Marks first second xs → Marks second third ys → Marks first third (xs ++ ys)
@@ -252,57 +249,17 @@ pub notes_two : {A E : Type 0} (answer : Result A E) (first second third : List 
 notes_two (Ok x) first second third xs ys zs is early late = subst (Notes first third) (sym is) (Notes-twice first second third xs ys early late)
 notes_two (Err e) first second third xs ys zs is early late = tt
 
--- what is noted once is noted
-pub notes_again : (first second names : List (List ℕ)) → Notes first second names → Notes second second names
-notes_again first second names notes = record { kept = λ n h. h; added = notes.added; only = λ n h. inl h }
+-- what is noted already
 
--- one list of names after another, where what is kept besides is the same
-pub notes_both : (first second third : List (List ℕ)) (xs ys zs : List (List ℕ)) → zs ≡ xs ++ ys → Notes first second xs → Notes second third ys → Notes first third zs
-notes_both first second third xs ys zs is early late = subst (Notes first third) (sym is) (Notes-twice first second third xs ys early late)
-
-pub notes_kept : {A E : Type 0} (answer : Result A E) (first third fourth names : List (List ℕ)) → fourth ≡ third → Notes first third names → OnOk answer (Notes first fourth names)
-notes_kept (Ok x) first third fourth names is notes = subst (λ l. Notes first l names) (sym is) notes
-notes_kept (Err e) first third fourth names is notes = tt
-
--- the terms whose names are noted, as more is noted and as one is kept
-
-pub noted_more : (old new names : List (List ℕ)) (terms : List (ℕ × Bor NamedTerm)) → Notes old new names → AreNoted old terms → AreNoted new terms
-noted_more old new names terms notes are = record { noted = λ entry member name inside. notes.kept name (are.noted entry member name inside) }
-
-entry_in : {K V : Type 0} (e : K → K → Bool) (entries : List (K × V)) (key : K) (value : V) (entry : K × V)
-    → IsMember entry (insert_entry e entries key value) → IsMember entry entries ⊎ (entry.1 ≡ value)
-entry_in {K} {V} e [] key value entry (inl same) = inr (ap (λ (p : K × V). p.1) same)
-entry_in e [] key value entry (inr none) = absurd none
-entry_in {K} {V} e (first ∷ rest) key value entry member = go (e key first.0) member (entry_in e rest key value entry)
-  where
-    go : (test : Bool) → IsMember entry (if test then (first.0, value) ∷ rest else first ∷ insert_entry e rest key value)
-        → (IsMember entry (insert_entry e rest key value) → IsMember entry rest ⊎ (entry.1 ≡ value))
-        → IsMember entry (first ∷ rest) ⊎ (entry.1 ≡ value)
-    go true (inl same) deeper = inr (ap (λ (p : K × V). p.1) same)
-    go true (inr member) deeper = inl (inr member)
-    go false (inl same) deeper = inl (inl same)
-    go false (inr member) deeper = elim (deeper member) [ inl early ↦ inl (inr early) | inr new ↦ inr new ]
-
-pub noted_term : (e : ℕ → ℕ → Bool) (names : List (List ℕ)) (terms : List (ℕ × Bor NamedTerm)) (mark : ℕ) (term : Bor NamedTerm)
-    → Notes names names (names_in_term term.now) → AreNoted names terms → AreNoted names (insert_entry e terms mark term)
-noted_term e names terms mark term notes are = record {
-  noted = λ entry member name inside. elim (entry_in e terms mark term entry member) [
-    | inl early ↦ are.noted entry early name inside
-    | inr new ↦ notes.added name (subst (λ (t : Bor NamedTerm). IsMember name (names_in_term t.now)) new inside)
-  ];
+pub noted_already : (names : List (List ℕ)) (name : List ℕ) → is_noted names (Some name) ≡ true → Notes names names (name ∷ [])
+noted_already names name is = record {
+  kept = λ n h. h;
+  added = λ n h. elim h [ inl same ↦ subst (λ m. IsMember m names) (sym same) (noted_member names name is) | inr none ↦ absurd none ];
+  only = λ n h. inl h;
 }
 
--- the names in a term that is kept are noted
-pub noted_at : (names : List (List ℕ)) (terms : List (ℕ × Bor NamedTerm)) (place mark : ℕ) (kept : Bor NamedTerm) (term : NamedTerm)
-    → slice_get terms place ≡ Some (mark, kept) → kept.now ≡ term → AreNoted names terms → Notes names names (names_in_term term)
-noted_at names terms place mark kept term there is are =
-    subst (λ t. Notes names names (names_in_term t)) is
-    (record { kept = λ n h. h; added = are.noted (mark, kept) (member terms place there); only = λ n h. inl h })
-  where
-    member : (terms : List (ℕ × Bor NamedTerm)) (place : ℕ) → slice_get terms place ≡ Some (mark, kept) → IsMember (mark, kept) terms
-    member [] place there = cc
-    member (first ∷ rest) zero there = inl (sym (same_value there))
-    member (first ∷ rest) (suc place) there = inr (member rest place there)
+pub both_noted : (names : List (List ℕ)) (xs ys zs : List (List ℕ)) → zs ≡ xs ++ ys → Notes names names xs → Notes names names ys → Notes names names zs
+both_noted names xs ys zs is early late = subst (Notes names names) (sym is) (Notes-twice names names names xs ys early late)
 
 flat_map-push : {A B : Type 0} (f : A → List B) (xs : List A) (x : A) → flat_map f (xs ++ x ∷ []) ≡ flat_map f xs ++ f x
 flat_map-push f [] x = append-nil (f x)

@@ -8,7 +8,6 @@ mod log_laws;
 mod mark;
 mod needed;
 mod pruning;
-mod same;
 mod writer;
 
 pub use claim::Claim;

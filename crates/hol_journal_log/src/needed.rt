@@ -10,14 +10,12 @@ ghost use Rattle.hol_journal_log.specs.Needed.{names_in_type, names_in_term, nam
 ghost use Rattle.hol_journal_log.specs.Marking as marking;
 ghost use Rattle.hol_journal_log.specs.Marking.{Marks, Notes, IsMarkedFrom};
 
-use crate::mark::mark_of;
-use crate::same::is_same;
 use hol_journal::Recorder;
 use hol_journal::entry::{Entry, Rule};
 use hol_model::Fault;
 use hol_terms::{Parts, Term};
 use hol_types::{Ty, TypeParts};
-use indexmap::{IndexMap, IndexSet};
+use indexmap::IndexSet;
 use std::alloc::Global;
 use std::marker::Model;
 
@@ -25,19 +23,15 @@ use std::marker::Model;
 #[derive(Drop)]
 struct Names<'a> {
     names: IndexSet<&'a str>,
-    // Terms whose names are noted, by the marks of these terms.
-    terms: IndexMap<u32, &'a Term>,
 }
 
 impl<'a> Model for Names<'a> {
     ghost use Rattle.std.specs.Prelude.{ℕ, List};
-    ghost use Rattle.hol_journal_log.specs.Noted.{noted_names, AreNoted};
+    ghost use Rattle.hol_journal_log.specs.Noted.{noted_names};
 
     ghost Value = { List (List ℕ) };
 
     ghost view = { noted_names };
-
-    ghost invariant = { λ inside. AreNoted (noted_names inside) inside.terms.entries };
 }
 
 impl<'a> Names<'a> {
@@ -47,7 +41,6 @@ impl<'a> Names<'a> {
     {
         Names {
             names: IndexSet::new(alloc),
-            terms: IndexMap::new(alloc),
         }
     }
 
@@ -67,29 +60,31 @@ impl<'a> Names<'a> {
         Ok(())
     }
 
-    // Whether the names in a term are known to be noted.
-    fn has_names_of(&self, mark: u32, term: &Term) -> bool
-        ensures { IsTrue result → Notes self.now self.now (names_in_term term.now) }
+    // Whether the names in a type are noted.
+    fn has_type(&self, ty: &Ty) -> bool
+        ensures { IsTrue result → Notes self.now self.now (names_in_type ty.now) }
     {
-        match self.terms.get_full(&mark) {
-            Some((_, _, noted)) => is_same(noted, term),
-            None => false,
+        match ty.parts() {
+            TypeParts::Variable(_) | TypeParts::Bool => true,
+            TypeParts::Function(domain, codomain) => {
+                self.has_type(domain) && self.has_type(codomain)
+            }
+            TypeParts::Declared(name) => self.contains(name),
         }
     }
 
-    // Whether a term with this mark is kept.
-    fn has_mark(&self, mark: u32) -> bool {
-        self.terms.contains_key(&mark)
-    }
-
-    // Keeps a term whose names are noted.
-    fn keep(&mut self, mark: u32, term: &'a Term) -> Result<(), Fault>
-        requires { Notes self.old self.old (names_in_term term.now) }
-        ensures same { self.new ≡ self.old }
-        ensures err { IfErr result (λ fault. fault ≡ Memory) }
+    // Whether the names in a term are noted.
+    fn has_term(&self, term: &Term) -> bool
+        ensures { IsTrue result → Notes self.now self.now (names_in_term term.now) }
     {
-        self.terms.insert(mark, term)?;
-        Ok(())
+        match term.parts() {
+            Parts::Variable(_, ty) => self.has_type(ty),
+            Parts::Constant(name, ty) => self.contains(name) && self.has_type(ty),
+            Parts::Combination(function, argument) => {
+                self.has_term(function) && self.has_term(argument)
+            }
+            Parts::Abstraction(_, ty, body) => self.has_type(ty) && self.has_term(body),
+        }
     }
 }
 
@@ -291,48 +286,19 @@ fn note_type<'a>(ty: &'a Ty, names: &mut Names<'a>) -> Result<(), Fault>
     }
 }
 
+// Notes the names in a term. Most terms have none that is not noted yet, which is told by a walk that compares no terms.
 fn note_term<'a>(term: &'a Term, names: &mut Names<'a>) -> Result<(), Fault>
     ensures ok { OnOk result (Notes names.old names.new (names_in_term term.now)) }
     ensures err { IfErr result (λ fault. fault ≡ Memory) }
 {
-    let mark = mark_of(term);
-    if names.has_names_of(mark, term) {
+    if names.has_term(term) {
         return Ok(());
     }
-    if names.has_mark(mark) {
-        return note_whole(mark, term, names);
-    }
-    match term.parts() {
-        Parts::Variable(_, ty) => note_type(ty, names),
-        Parts::Constant(name, ty) => {
-            names.note(name)?;
-            note_type(ty, names)
-        }
-        Parts::Combination(function, argument) => {
-            note_term(function, names)?;
-            note_term(argument, names)?;
-            names.keep(mark, term)
-        }
-        Parts::Abstraction(_, ty, body) => {
-            note_type(ty, names)?;
-            note_term(body, names)?;
-            names.keep(mark, term)
-        }
-    }
-}
-
-// Notes the names in a term whose mark is another term's too: its parts are not looked up whole, since each may be another's
-// but for what stands deep in it.
-fn note_whole<'a>(mark: u32, term: &'a Term, names: &mut Names<'a>) -> Result<(), Fault>
-    ensures ok { OnOk result (Notes names.old names.new (names_in_term term.now)) }
-    ensures err { IfErr result (λ fault. fault ≡ Memory) }
-{
-    note_walked(term, names)?;
-    names.keep(mark, term)
+    note_parts(term, names)
 }
 
 // Notes the names in a term, part by part.
-fn note_walked<'a>(term: &'a Term, names: &mut Names<'a>) -> Result<(), Fault>
+fn note_parts<'a>(term: &'a Term, names: &mut Names<'a>) -> Result<(), Fault>
     ensures ok { OnOk result (Notes names.old names.new (names_in_term term.now)) }
     ensures err { IfErr result (λ fault. fault ≡ Memory) }
 {
@@ -343,12 +309,12 @@ fn note_walked<'a>(term: &'a Term, names: &mut Names<'a>) -> Result<(), Fault>
             note_type(ty, names)
         }
         Parts::Combination(function, argument) => {
-            note_walked(function, names)?;
-            note_walked(argument, names)
+            note_parts(function, names)?;
+            note_parts(argument, names)
         }
         Parts::Abstraction(_, ty, body) => {
             note_type(ty, names)?;
-            note_walked(body, names)
+            note_parts(body, names)
         }
     }
 }

@@ -1,13 +1,7 @@
 use Rattle.std.proofs.Common.{ℕ, List, [], ◌∷◌, subst}
 use Rattle.hol_journal_log.specs.Marking.{Notes, held_names}
-use Rattle.hol_journal_log.specs.Noted.{noted_names}
-use Rattle.hol_journal_log.proofs.MarkingLemmas.{note_put, noted_more}
+use Rattle.hol_journal_log.proofs.MarkingLemmas.{note_put}
 use Rattle.hol_journal_log.proofs.needed.Names.note.Goals as goal
-
-pub invariant_of-self-2 : goal.invariant_of-self-2
-invariant_of-self-2 c =
-    noted_more (noted_names c.self.inside) (held_names c.insert.new.self.keys) (c.args.name.now ∷ []) c.self.inside.terms.entries
-    (note_put c.self.inside.names.keys c.insert.new.self.keys c.args.name c.in_ok-insert.ensures.keys) c.self.invariant
 
 pub returns-clause-ok : goal.returns-clause-ok
 returns-clause-ok c =
