@@ -210,7 +210,7 @@ module _ (theory : Theory) where
           let two : is_roomy (nameless_equation ty (image t) made) ≡ true = equation-roomy ty (image t) made (small-whole-type (image t) small) small (makes redex is) in
           let second : list_all is_roomy (nameless_equation ty (image t) made ∷ []) ≡ true = both (is_roomy (nameless_equation ty (image t) made)) true two refl in
           let room : list_all is_roomy (image t ∷ nameless_equation ty (image t) made ∷ []) ≡ true =
-              both (is_roomy (image t)) (list_all is_roomy (nameless_equation ty (image t) made ∷ [])) one second in
+          both (is_roomy (image t)) (list_all is_roomy (nameless_equation ty (image t) made ∷ [])) one second in
           let none = same.1 in
           cc
 
@@ -222,10 +222,10 @@ module _ (theory : Theory) where
   instance-within rule t by sides ty typed conclusion puts gives small makes =
       let s : HolType = instantiate_type (type_instance_of by.types) ty in
       let here : HasType [] (replaced by (image sides.0)) s =
-          put-typed (replacement by.terms) puts (instantiate (type_instance_of by.types) (image sides.0)) [] s (instantiate-typed (type_instance_of by.types) (image sides.0) [] ty typed) in
+      put-typed (replacement by.terms) puts (instantiate (type_instance_of by.types) (image sides.0)) [] s (instantiate-typed (type_instance_of by.types) (image sides.0) [] ty typed) in
       let there : HasType [] (image t) s = subst (λ (u : Nameless). HasType [] u s) gives here in
       let few : type_nodes s ≤ SMALL_TYPE_NODES =
-          subst (λ (a : HolType). type_nodes a ≤ SMALL_TYPE_NODES) (nameless_type-is (image t) [] s there) (small-whole-type (image t) small) in
+      subst (λ (a : HolType). type_nodes a ≤ SMALL_TYPE_NODES) (nameless_type-is (image t) [] s there) (small-whole-type (image t) small) in
       let left : is_small (replaced by (image sides.0)) ≡ true = ap is_small gives ∙ small in
       subst (λ (u : Nameless). nameless_within_limits (replaced by u) ≡ true) (sym conclusion)
       (roomy-within (nameless_equation s (replaced by (image sides.0)) (replaced by (image sides.1))) (equation-roomy s (replaced by (image sides.0)) (replaced by (image sides.1)) few left makes))
@@ -256,8 +256,8 @@ module _ (theory : Theory) where
       let q = list_all (λ term. is_small (replaced by term)) (images rule) in
       let conclusion = instance-within rule t by sides parts.ty parts.left.typed parts.same match.may_be_put.typed match.gives_term small (first_of_both p q makes) in
       let fits : has_fitting_instance rule by ≡ true =
-          both (nameless_within_limits (replaced by (image rule.conclusion))) (list_all (λ term. nameless_within_limits (replaced by term)) (images rule)) conclusion
-          (all-within by (images rule) (second_of_both p q makes)) in
+      both (nameless_within_limits (replaced by (image rule.conclusion))) (list_all (λ term. nameless_within_limits (replaced by term)) (images rule)) conclusion
+      (all-within by (images rule) (second_of_both p q makes)) in
       cc
 
   host-fits : (store : Store) (t : NamedTerm) (answered : HostEquation) (answer : Result Theorem Fault) → has_room theory (sequents_in store) [] answered.justification ≡ true

@@ -1,18 +1,18 @@
 -- A command on goals that meets what is small alone is not refused for a limit.
 use Rattle.std.proofs.Common.{◌≡◌, ℕ, List, [], ◌∷◌, Bool, true, false, refl, sym, subst, inl, inr, Option, Some, None, Result, Ok, Err}
 use Rattle.hol_model.specs.declared.fault.Fault.{Fault}
-use Rattle.hol_model.specs.declared.fault.Fault.TheVariants.{TooLarge, NotBool, NotEquation, NotAlpha, NoGoal, InvalidStep}
+use Rattle.hol_model.specs.declared.fault.Fault.TheVariants.{TooLarge, NotBool, NotEquation, NotAlpha, InvalidStep}
 use Rattle.hol_model.specs.Terms.NamedTerm.{NamedTerm, equation, is_within_limits}
 use Rattle.hol_model.specs.Terms.Nameless.{image}
 use Rattle.hol_model.specs.Logic.Theory.{Theory}
-use Rattle.hol_model.specs.Kernel.Outcome.{unless, refused}
+use Rattle.hol_model.specs.Kernel.Outcome.{unless}
 use Rattle.hol_model.specs.Kernel.Answers.{goes_on, stops}
-use Rattle.hol_model.specs.Kernel.Theorem.{Theorem, are_alpha_equivalent, with_hypotheses}
+use Rattle.hol_model.specs.Kernel.Theorem.{Theorem, are_alpha_equivalent}
 use Rattle.hol_model.specs.Kernel.Rules.{dest_equation, first_unknown, is_formula, refl_outcome, eq_mp_outcome}
 use Rattle.hol_model.specs.Texts.Reading.{◌>>=◌}
 use Rattle.hol_model.specs.Rewrites.SmallTerms.{is_small}
 use Rattle.hol_model.specs.Goals.Goals.{Goal, Sequent}
-use Rattle.hol_model.specs.Goals.Justifications.{Justification, sequent_of}
+use Rattle.hol_model.specs.Goals.Justifications.{sequent_of}
 use Rattle.hol_model.specs.Goals.ValidSteps.{Step}
 use Rattle.hol_model.specs.Goals.Achieving.{achieves}
 use Rattle.hol_model.specs.Goals.Replays.{Store, IsStoreOver, AnswersReplay, IsReplay, sequents_in, has_room, is_within_depth}
@@ -43,7 +43,7 @@ set-fits theory term small =
     let modest = low-modest term (small-low term small) in
     let within : is_within_limits (equation term term) ≡ true = equation-fits term term modest modest in
     let last : Fits (unless (is_within_limits (equation term term)) TooLarge (Ok (begun (goal_of term)))) =
-        subst (λ (test : Bool). Fits {A = Proof} (unless test TooLarge (Ok (begun (goal_of term))))) (sym within) tt in
+    subst (λ (test : Bool). Fits {A = Proof} (unless test TooLarge (Ok (begun (goal_of term))))) (sym within) tt in
     fits-test (is_formula term) NotBool _ tt (λ formula. fits-refused (first_unknown theory term) _ (no-limit-unknown theory term) last)
 
 back-fits : (found : Option Proof) → Fits (back_outcome found)
@@ -106,11 +106,11 @@ module _ (theory : Theory) where
   closed-fits (Err fault) none = none
 
   stage-fits : (store : Store) (goal : Goal) (step : Step) (deep : Bool) (goals : List Goal) (answer : Result Stage Fault) → is_small (image goal.target) ≡ true → deep ≡ true
-      → has_room theory (sequents_in store) [] step.justification ≡ true → IsStageOf theory (IsReplay theory store []) goal step deep goals answer → Fits answer
+      → (goals ≡ [] → has_room theory (sequents_in store) [] step.justification ≡ true) → IsStageOf theory (IsReplay theory store []) goal step deep goals answer → Fits answer
   stage-fits store goal step false goals answer small depth room is = cc
   stage-fits store goal step true (first ∷ others) answer small depth room is = fits-as answer (Ok (underway step)) is tt
   stage-fits store goal step true [] answer small depth room (stops fault refuses is) =
-      fits-as answer (Err fault) is (replay-fits (has_room theory (sequents_in store) [] step.justification) (sequent_of theory (sequents_in store) [] step.justification) fault room refuses)
+      fits-as answer (Err fault) is (replay-fits (has_room theory (sequents_in store) [] step.justification) (sequent_of theory (sequents_in store) [] step.justification) fault (room refl) refuses)
   stage-fits store goal step true [] answer small depth room (goes_on theorem made is) =
       fits-as answer _ is (closed-fits (closing_outcome theory goal theorem) (closing-fits goal theorem small))
 

@@ -231,9 +231,10 @@ pub small-parts : (f x : Nameless) → is_small (app f x) ≡ true → (is_small
 small-parts f x small =
     let whole = measures (app f x) small in
     let tall = whole.height_is in
-    let many = whole.nodes_are in
-    (is-small f (omega arith) (omega arith) (first_of_both (has_small_types [] f) (has_small_types [] x) whole.types),
-    is-small x (omega arith) (omega arith) (second_of_both (has_small_types [] f) (has_small_types [] x) whole.types))
+    let many = whole.nodes_are in (
+      is-small f (omega arith) (omega arith) (first_of_both (has_small_types [] f) (has_small_types [] x) whole.types),
+      is-small x (omega arith) (omega arith) (second_of_both (has_small_types [] f) (has_small_types [] x) whole.types),
+    )
 
 pub small-binder-type : (ty : HolType) (body : Nameless) → is_small (lam ty body) ≡ true → type_nodes ty ≤ SMALL_TYPE_NODES
 small-binder-type ty body small =

@@ -3,6 +3,6 @@ pub mod KnownRules
 pub mod Laws
 pub mod SessionRefusals
 pub mod SmallConversions
-pub mod SmallLaws
 pub mod SmallRefiners
 pub mod SmallGoals
+pub mod SmallLaws

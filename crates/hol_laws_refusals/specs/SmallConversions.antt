@@ -1,5 +1,6 @@
--- Runs of a conversion in which what it meets is small: each term that it tries and each that it makes, the theorem that it
--- rewrites by, and what it is refused. No limit on descents is passed, and what a host answers leaves room.
+-- Derivations of what a conversion answers in which all that it meets is small: each term that it tries, what it makes of it, what
+-- it would make where it is refused, and a theorem whose rules are refused. No limit on descents is passed, and what a host
+-- answers leaves room.
 use Rattle.std.specs.Prelude.{◌≡◌, ℕ, List, [], ◌∷◌, true, Some, Result, Ok, Err}
 use Rattle.std.specs.List.{list_all}
 use Rattle.hol_model.specs.declared.fault.Fault.{Fault}
@@ -42,9 +43,9 @@ RuleMakesSmall _ = Unit {0}
 
 module _ (theory : Theory) (store : Store) (hosts : HostConversions) where
   abbrev mutual
-    -- what the conversion meets on the term is small
+    -- what the conversion meets on the term is small: the term, and what it makes of it, and what it meets on the way
     pub StaysSmall : {depth steps left : ℕ} {c : Conversion} {t : NamedTerm} {answer : Result Theorem Fault} → Converts theory store hosts depth steps c t answer left → Type 0
-    -- a theorem without rules, and what would be made where it is refused
+    -- what would be made where it is refused, and a theorem whose rules are refused
     StaysSmall {t = t} {answer = answer} (run.beta_converts is) = IsSmallStep t answer × BetaMakesSmall t
     StaysSmall {t = t} {answer = answer} (run.has_no_rules {theorem} is refuses) = IsSmallStep t answer × IsSmallTheorem theorem
     StaysSmall {t = t} {answer = answer} (run.theorem_rewrites is rules made) = IsSmallStep t answer × RuleMakesSmall made

@@ -24,7 +24,7 @@ SmallConversionsFit hosts =
     (theory : Theory) (store : Store) (depth steps left : ℕ) (c : Conversion) (t : NamedTerm) → HasLogic theory → IsStoreOver theory store → HasKnownRules theory c
     → (r : Converts theory store hosts depth steps c t (Err TooLarge) left) → StaysSmall theory store hosts r → ⊥
 
--- so is no refiner expression
+-- nor is such a refiner expression
 abbrev pub SmallRefinersFit : Host → Type 0
 SmallRefinersFit host =
     (theory : Theory) (before after : Stage) (t : Tactic) (goal : Goal) → HasLogic theory → IsStoreOver theory before.store → TacticHasKnownRules theory t

@@ -1,6 +1,6 @@
--- Runs of a refiner expression in which what it meets is small: each goal that it refines, the theorems that a refiner names, what
--- it would leave, and what a conversion meets. No limit on the depth of a justification is passed, and what a host answers leaves
--- room.
+-- Derivations of what a refiner expression answers in which all that it meets is small: each goal that it refines, what a refiner
+-- takes beside its goal, and what a conversion meets. No limit on the depth of a justification is passed, and what a host answers
+-- leaves room.
 use Rattle.std.specs.Prelude.{◌≡◌, ℕ, List, [], ◌∷◌, map, true, Option, Some, None, Result}
 use Rattle.std.specs.List.{list_all}
 use Rattle.hol_model.specs.declared.fault.Fault.{Fault}
