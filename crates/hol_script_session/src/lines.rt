@@ -106,12 +106,9 @@ pub(crate) fn definition_line(
 ) -> Result<Option<TheoremLine>, Fault>
     ensures { MakesLine result (scope_of scope.now) name.now stored.now term.now }
 {
-    match definition_equation(alloc, name, term) {
-        Ok(Some(equation)) => match sequent_line(alloc, scope, stored, &[], &equation) {
-            Ok(line) => Ok(Some(line)),
-            Err(fault) => Err(fault),
-        },
-        Ok(None) => Ok(None),
-        Err(fault) => Err(fault),
-    }
+    let Some(equation) = definition_equation(alloc, name, term)? else {
+        return Ok(None);
+    };
+    let line = sequent_line(alloc, scope, stored, &[], &equation)?;
+    Ok(Some(line))
 }

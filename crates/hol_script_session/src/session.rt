@@ -58,14 +58,9 @@ impl Session {
         ensures lemmas { IfOk result (λ session. lemmas_of session ≡ []) }
         ensures err { IfErr result (λ fault. fault ≡ Memory) }
     {
-        let mut session = match Session::with_logic(alloc) {
-            Ok(session) => session,
-            Err(fault) => return Err(fault),
-        };
-        match session.store_all(alloc, &STORED) {
-            Ok(()) => Ok(session),
-            Err(fault) => Err(fault),
-        }
+        let mut session = Session::with_logic(alloc)?;
+        session.store_all(alloc, &STORED)?;
+        Ok(session)
     }
 
     // The logical constants, and no stored theorems.
@@ -76,14 +71,8 @@ impl Session {
         ensures lemmas { IfOk result (λ session. lemmas_of session ≡ []) }
         ensures err { IfErr result (λ fault. fault ≡ Memory) }
     {
-        let scope = match logical_scope(alloc) {
-            Ok(scope) => scope,
-            Err(fault) => return Err(fault),
-        };
-        let library = match Library::new(alloc) {
-            Ok(library) => library,
-            Err(fault) => return Err(fault),
-        };
+        let scope = logical_scope(alloc)?;
+        let library = Library::new(alloc)?;
         library.recorder.theory_is_legal();
         Ok(Session { library, scope })
     }
@@ -99,10 +88,7 @@ impl Session {
     {
         for at in 0..table.len() {
             let stored = &table[at];
-            match self.store_numbered(alloc, stored.name, stored.number) {
-                Ok(()) => {}
-                Err(fault) => return Err(fault),
-            }
+            self.store_numbered(alloc, stored.name, stored.number)?;
         }
         Ok(())
     }
@@ -116,10 +102,8 @@ impl Session {
         ensures kept { IsSession self.new }
         ensures lemmas { lemmas_of self.new ≡ lemmas_of self.old }
     {
-        match theorem_of(&self.library.recorder, &self.library.logic, number).copy(alloc) {
-            Ok(theorem) => self.store(alloc, name, theorem),
-            Err(fault) => Err(fault),
-        }
+        let theorem = theorem_of(&self.library.recorder, &self.library.logic, number).copy(alloc)?;
+        self.store(alloc, name, theorem)
     }
 
     /// Whether a theorem may have this name. Refused: BadName, where the name ends in `_def`, which belongs to definitions;
@@ -152,14 +136,9 @@ impl Session {
         sound();
         let thm = self.library.recorder.thm(&theorem);
         thm.well_formed();
-        let line = match theorem_line(alloc, &self.scope, name, thm) {
-            Ok(line) => line,
-            Err(fault) => return Err(fault),
-        };
-        match self.store(alloc, name, theorem) {
-            Ok(()) => Ok(Printed::Line(line)),
-            Err(fault) => Err(fault),
-        }
+        let line = theorem_line(alloc, &self.scope, name, thm)?;
+        self.store(alloc, name, theorem)?;
+        Ok(Printed::Line(line))
     }
 
     // Stores a theorem. A refusal changes nothing.
@@ -173,13 +152,8 @@ impl Session {
         ensures lemmas { lemmas_of self.new ≡ lemmas_of self.old }
         ensures recorder { self.new.library.recorder ≡ self.old.library.recorder }
     {
-        let Ok(key) = String::from_str(alloc, name) else {
-            return Err(Fault::Memory);
-        };
-        match self.library.store.room() {
-            Ok(()) => {}
-            Err(fault) => return Err(fault),
-        }
+        let key = String::from_str(alloc, name)?;
+        self.library.store.room()?;
         self.library.recorder.thm(&theorem).well_formed();
         self.library.store.put_made(key, theorem);
         Ok(())
@@ -196,10 +170,8 @@ impl Session {
         sound();
         let thm = self.library.recorder.thm(theorem);
         thm.well_formed();
-        match theorem_line(alloc, &self.scope, name, thm) {
-            Ok(line) => Ok(Printed::Line(line)),
-            Err(fault) => Err(fault),
-        }
+        let line = theorem_line(alloc, &self.scope, name, thm)?;
+        Ok(Printed::Line(line))
     }
 
     /// `var NAME : type`: declares a variable for bare names, in place of an earlier one. A refusal changes nothing.
@@ -212,14 +184,9 @@ impl Session {
         ensures stays { StaysMade self.old self.new }
         ensures later { IsLaterLibrary (state_of self.old) (state_of self.new) }
     {
-        let ty = match self.ty(alloc, steps) {
-            Ok(ty) => ty,
-            Err(fault) => return Err(fault),
-        };
-        match self.scope.set_var(alloc, name, &ty) {
-            Ok(()) => Ok(Printed::Nothing),
-            Err(fault) => Err(fault),
-        }
+        let ty = self.ty(alloc, steps)?;
+        self.scope.set_var(alloc, name, &ty)?;
+        Ok(Printed::Nothing)
     }
 
     /// `def NAME = t`: defines a constant, and stores and prints the theorem as `NAME_def`. A refusal changes nothing.
@@ -232,10 +199,7 @@ impl Session {
         ensures stays { StaysMade self.old self.new }
         ensures later { IsLaterLibrary (state_of self.old) (state_of self.new) }
     {
-        let term = match self.term(alloc, steps) {
-            Ok(term) => term,
-            Err(fault) => return Err(fault),
-        };
+        let term = self.term(alloc, steps)?;
         match self.scope.add_const(alloc, name, term.ty()) {
             Ok(()) => {}
             Err(Fault::NameTaken) => return Err(self.refusal_of_definition(alloc, name, &term)),
@@ -291,10 +255,7 @@ impl Session {
         ensures stays { StaysMade self.old self.new }
         ensures later { IsLaterLibrary (state_of self.old) (state_of self.new) }
     {
-        let ty = match self.ty(alloc, steps) {
-            Ok(ty) => ty,
-            Err(fault) => return Err(fault),
-        };
+        let ty = self.ty(alloc, steps)?;
         match self.scope.add_const(alloc, name, &ty) {
             Ok(()) => {}
             Err(Fault::NameTaken) => return Err(self.refusal_of_const(alloc, name, &ty)),
@@ -343,10 +304,7 @@ impl Session {
             → Answers result (meaning (scope_in (state_of self.now)) [] tree) }
         ensures known { IfOk result (λ term. logic.is_known self.now.library.recorder.theory term ≡ true) }
     {
-        let term = match self.term(alloc, steps) {
-            Ok(term) => term,
-            Err(fault) => return Err(fault),
-        };
+        let term = self.term(alloc, steps)?;
         match self.library.recorder.theory().first_unknown(&term) {
             None => Ok(term),
             Some(fault) => Err(fault),
@@ -359,10 +317,7 @@ impl Session {
         ensures reads { (tree : TypeTree) → steps_of steps.now ≡ type_steps tree → Answers result (type_meaning (scope_in (state_of self.now)) tree) }
         ensures known { IfOk result (λ ty. logic.knows_type self.now.library.recorder.theory ty ≡ true) }
     {
-        let ty = match build_type(alloc, &self.scope, steps) {
-            Ok(ty) => ty,
-            Err(fault) => return Err(fault),
-        };
+        let ty = build_type(alloc, &self.scope, steps)?;
         if !knows_type(self.library.recorder.theory(), &ty) {
             return Err(Fault::UnknownType);
         }
@@ -375,24 +330,13 @@ impl Session {
         ensures kept { OnErr result (KeepsSession self.old self.new) }
         ensures err { IfErr result (λ fault. (fault ≡ Memory) ⊎ (define_outcome self.old.library.recorder.theory name.now term.now ≡ Err fault)) }
     {
-        let key = match definition_name(alloc, name) {
-            Ok(key) => key,
-            Err(fault) => return Err(fault),
+        let key = definition_name(alloc, name)?;
+        let Some(line) = definition_line(alloc, &self.scope, name, key.as_str(), term)? else {
+            return Err(self.refusal_of_definition(alloc, name, term));
         };
-        let line = match definition_line(alloc, &self.scope, name, key.as_str(), term) {
-            Ok(Some(line)) => line,
-            Ok(None) => return Err(self.refusal_of_definition(alloc, name, term)),
-            Err(fault) => return Err(fault),
-        };
-        match self.library.store.room() {
-            Ok(()) => {}
-            Err(fault) => return Err(fault),
-        }
+        self.library.store.room()?;
         journals_grow();
-        let theorem = match self.library.recorder.define(alloc, name, term) {
-            Ok(theorem) => theorem,
-            Err(fault) => return Err(fault),
-        };
+        let theorem = self.library.recorder.define(alloc, name, term)?;
         self.library.recorder.thm(&theorem).well_formed();
         self.library.store.put_made(key, theorem);
         Ok(line)

@@ -7,5 +7,5 @@ pub store_all-requires-clause-table : goal.store_all-requires-clause-table
 store_all-requires-clause-table c =
     ((refl, refl), ((refl, refl), ((refl, refl), ((refl, refl), ((refl, refl), ((refl, refl), ((refl, refl), ((refl, refl), ((refl, refl), ((refl, refl), ((refl, refl), ((refl, refl), tt))))))))))))
 
-pub returns-in-Ok-store_all-clause-ok : goal.returns-in-Ok-store_all-clause-ok
-returns-in-Ok-store_all-clause-ok c = c.in-Ok-store_all.ensures.ok ∙ ap (λ (state : State). with_theorems state stored_theorems) c.in-Ok.ensures.ok
+pub returns-clause-ok : goal.returns-clause-ok
+returns-clause-ok c = c.in_ok-store_all.ensures.ok ∙ ap (λ (state : State). with_theorems state stored_theorems) c.in_ok-session.ensures.ok

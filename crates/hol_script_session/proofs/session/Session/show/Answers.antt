@@ -1,4 +1,5 @@
 use Rattle.std.proofs.Common.{sym, ◌∙◌, ap, subst, Bor}
+use Rattle.std.proofs.lemmas.Result.{err_from_is_err_and}
 use Rattle.std.specs.Option.{option_map}
 use Rattle.hol_model.specs.declared.fault.Fault.TheVariants.{UnknownName}
 use Rattle.hol_model.specs.Texts.Reading.{Scope}
@@ -16,16 +17,18 @@ returns-in_default c = λ lemmas.
     refuses (state_of c.args.self.now) (show_command c.args.name.now) UnknownName
     (show_finds_none (ap theorem_of (sym c.get.ensures.found ∙ ap (option_map (λ (made : Bor Recorded). made.now)) c.in_default.is)))
 
-pub returns-in-Ok : goal.returns-in-Ok
-returns-in-Ok c = λ lemmas.
+pub returns : goal.returns
+returns c = λ lemmas.
     let session = c.args.self.now in
     let theorem = c.in-Some.theorem.now.theorem in
-    prints (state_of session) (state_of session) (show_command c.args.name.now) c.args.name.now theorem c.in-Ok.line
+    prints (state_of session) (state_of session) (show_command c.args.name.now) c.args.name.now theorem c.in_ok-line.line
     (show_prints (ap theorem_of (sym c.in-Some.ensures.found)))
     (λ beside. proved (with_beside beside (state_of session)) theorem c.sound.ensures c.requires.legal
     (rw c.thm-thm.ensures at c.well_formed-2.ensures)
     (c.requires.library.stored.theorems c.args.name.now c.in-Some.theorem.now (sym c.in-Some.ensures.found)).earlier)
-    (subst (λ (scope : Scope). IsLineOf c.in-Ok.line scope c.args.name.now theorem) (scope_same session c.requires) (rw c.thm-thm.ensures at c.in-Ok.ensures.ok))
+    (subst (λ (scope : Scope). IsLineOf c.in_ok-line.line scope c.args.name.now theorem) (scope_same session c.requires) (rw c.thm-thm.ensures at c.in_ok-line.ensures.ok))
 
-pub returns-in-Err : goal.returns-in-Err
-returns-in-Err c = λ lemmas. forgets (state_of c.args.self.now) (show_command c.args.name.now) c.in-Err.fault c.in-Err.ensures.err
+pub returns-in_err-line : goal.returns-in_err-line
+returns-in_err-line c = λ lemmas.
+    let p = err_from_is_err_and c.from_residual.result c.from_residual.ensures.1 in
+    rw (p.1, p.2) (forgets (state_of c.args.self.now) (show_command c.args.name.now) c.in_err-line.field-0.0 c.in_err-line.ensures.err)

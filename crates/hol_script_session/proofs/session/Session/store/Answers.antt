@@ -8,8 +8,8 @@ use Rattle.hol_script_session.proofs.GrowthLemmas.{same_lemmas, kept_store, stor
 use Rattle.hol_script_session.proofs.RecordingLemmas.{stored_theorem}
 use Rattle.hol_script_session.proofs.session.Session.store.Goals as goal
 
-pub returns-in-Err-clause-kept : goal.returns-in-Err-clause-kept
-returns-in-Err-clause-kept c = kept_store c.args.self.now c.room.new.self c.requires.session c.room.ensures.kept
+pub returns-in_err-room-clause-kept : goal.returns-in_err-room-clause-kept
+returns-in_err-room-clause-kept c = kept_store c.args.self.now c.room.new.self c.requires.session c.room.ensures.kept
 
 pub returns-clause-kept : goal.returns-clause-kept
 returns-clause-kept c =
@@ -17,7 +17,7 @@ returns-clause-kept c =
     let new = stored_of c.put_made.new.self in
     let stores : StoresTheorem old new c.args.name.now c.args.theorem = record {
       theorems = λ other. c.put_made.ensures.stored.theorems other
-          ∙ ap (λ (key : List ℕ). cond (bytes_eq key other) (Some c.args.theorem) ((stored_of c.room.new.self).theorems other)) c.in-Ok.ensures.ok
+          ∙ ap (λ (key : List ℕ). cond (bytes_eq key other) (Some c.args.theorem) ((stored_of c.room.new.self).theorems other)) c.in_ok-key.ensures.ok
           ∙ ap (λ found. cond (bytes_eq c.args.name.now other) (Some c.args.theorem) found) (c.room.ensures.kept.theorems other);
       lemmas = c.put_made.ensures.stored.lemmas ∙ c.room.ensures.kept.lemmas;
     } in
@@ -29,7 +29,7 @@ returns-clause-ok c =
     let new = stored_of c.put_made.new.self in
     let stores : StoresTheorem old new c.args.name.now c.args.theorem = record {
       theorems = λ other. c.put_made.ensures.stored.theorems other
-          ∙ ap (λ (key : List ℕ). cond (bytes_eq key other) (Some c.args.theorem) ((stored_of c.room.new.self).theorems other)) c.in-Ok.ensures.ok
+          ∙ ap (λ (key : List ℕ). cond (bytes_eq key other) (Some c.args.theorem) ((stored_of c.room.new.self).theorems other)) c.in_ok-key.ensures.ok
           ∙ ap (λ found. cond (bytes_eq c.args.name.now other) (Some c.args.theorem) found) (c.room.ensures.kept.theorems other);
       lemmas = c.put_made.ensures.stored.lemmas ∙ c.room.ensures.kept.lemmas;
     } in

@@ -13,7 +13,7 @@ loop-at-preserved c = record {
   storing =
       storing-further (state_of c.args.self.now) (state_of c.loop-at.self) (state_of c.store_numbered.new.self) _ (drop (c.loop-at.at + 1) c.args.table.now) stored_theorems
       (storing-next (state_of c.args.self.now) (state_of c.loop-at.self) c.args.table.now c.loop-at.at _ stored_theorems c.loop-at-test.true c.loop-at.invariant.storing)
-      c.in-Ok.ensures.ok;
-  session = c.in-Ok.ensures.kept;
-  lemmas = c.in-Ok.ensures.lemmas ∙ c.loop-at.invariant.lemmas;
+      c.in_ok-store_numbered.ensures.ok;
+  session = c.in_ok-store_numbered.ensures.kept;
+  lemmas = c.in_ok-store_numbered.ensures.lemmas ∙ c.loop-at.invariant.lemmas;
 }
