@@ -3,7 +3,8 @@ use Rattle.std.proofs.Common.{◌≡◌, ℕ, ◌≤◌, List, [], ◌∷◌, �
 use Rattle.std.specs.List.{list_all}
 use Rattle.std.specs.Option.{is_some}
 use Rattle.hol_model.specs.declared.fault.Fault.{Fault}
-use Rattle.hol_model.specs.declared.fault.Fault.TheVariants.{Memory, TooLarge, TypeMismatch, NotEquation, NotAlpha, UnknownType, UnknownConst, NotInstance, FreeInHypothesis, ConvFails, BadShape, InvalidStep}
+use Rattle.hol_model.specs.declared.fault.Fault.TheVariants.{Memory, TooLarge, TypeMismatch, NotEquation, NotAlpha, UnknownType, UnknownConst, NotInstance}
+use Rattle.hol_model.specs.declared.fault.Fault.TheVariants.{FreeInHypothesis, ConvFails, BadShape, InvalidStep}
 use Rattle.hol_model.specs.Terms.HolType.{HolType, bool_type, type_nodes, instantiate_type, type_instance_of}
 use Rattle.hol_model.specs.Terms.NamedTerm.{NamedTerm, variable, combination, abstraction, equation, type_of, is_within_limits}
 use Rattle.hol_model.specs.Terms.Nameless.{Nameless, HasType, image, image_under, nameless_type}
@@ -23,7 +24,8 @@ use Rattle.hol_model.specs.Goals.Replays.{Store, IsStoreOver, sequents_in, has_r
 use Rattle.hol_model.specs.Refining.HostFunctions.{HostEquation, HostConversions, AnswersHostEquation}
 use Rattle.hol_model.specs.Refining.RefinerConditions.{HasLogic}
 use Rattle.hol_model.specs.Refining.Conversions as conv
-use Rattle.hol_model.specs.Refining.Conversions.{Conversion, Conversions, Converts, ConvertsOn, redex_outcome, binder_fault, binder_answer, of_body, of_parts, of_argument, of_function, if_changed, defined_as}
+use Rattle.hol_model.specs.Refining.Conversions.{Conversion, Conversions, Converts, ConvertsOn, redex_outcome, binder_fault, binder_answer, of_body}
+use Rattle.hol_model.specs.Refining.Conversions.{of_parts, of_argument, of_function, if_changed, defined_as}
 use Rattle.hol_model.proofs.Tests.{first_of_both, second_of_both, both}
 use Rattle.hol_model.proofs.Terms.Typing.{nameless_type-is, put-typed, instantiate-typed}
 use Rattle.hol_laws_refiners.proofs.Equations.{equation-sides, conversions-answer-equations}
@@ -33,7 +35,8 @@ use Rattle.hol_laws_refusals.specs.SmallConversions.{IsSmallStep, IsSmallTheorem
 use Rattle.hol_laws_refusals.specs.SmallLaws.{SmallConversionsFit}
 use Rattle.hol_laws_refusals.proofs.Known.{same_pair, theorem-known}
 use Rattle.hol_laws_refusals.proofs.RulesOf.{rules-known}
-use Rattle.hol_laws_refusals.proofs.SmallLimits.{small-low, low-modest, combination-modest, abstraction-modest, equation-fits, small-whole-type, small-parts, small-binder-type, small-roomy, equation-roomy, roomy-within}
+use Rattle.hol_laws_refusals.proofs.SmallLimits.{small-low, low-modest, combination-modest, abstraction-modest, equation-fits, small-whole-type, small-parts}
+use Rattle.hol_laws_refusals.proofs.SmallLimits.{small-binder-type, small-roomy, equation-roomy, roomy-within}
 
 -- ---- answers
 

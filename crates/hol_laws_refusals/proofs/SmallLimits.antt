@@ -6,7 +6,8 @@ use Rattle.std.specs.Option.{option_map, option_map_or}
 use Rattle.std.proofs.lemmas.Bool.{leb-true, le-leb}
 use Rattle.hol_model.specs.declared.limits.TheConstants.{TYPE_NODES_LIMIT, TERM_NODES_LIMIT, TERM_HEIGHT_LIMIT}
 use Rattle.hol_model.specs.Terms.HolType.{HolType, bool_type, function_type, codomain_of, type_nodes}
-use Rattle.hol_model.specs.Terms.NamedTerm.{NamedTerm, variable, constant, combination, abstraction, Binder, same_variable, type_of, equality, equation, height, nodes, type_fits, some_type_fits, types_fit, is_within_limits}
+use Rattle.hol_model.specs.Terms.NamedTerm.{NamedTerm, variable, constant, combination, abstraction, Binder, same_variable, type_of, equality, equation}
+use Rattle.hol_model.specs.Terms.NamedTerm.{height, nodes, type_fits, some_type_fits, types_fit, is_within_limits}
 use Rattle.hol_model.specs.Terms.Nameless.{Nameless, free, const, bound, app, lam, image, image_under, variable_image, binder_index, binder_type, nameless_type}
 use Rattle.hol_model.specs.Terms.Measures.{nameless_height, nameless_nodes, nameless_types_fit, nameless_within_limits}
 use Rattle.hol_model.specs.Terms.Substitution.{fill_at, fill}
