@@ -4,7 +4,7 @@ use crate::place::Told;
 use hol_model::Fault;
 use serde::Serialize;
 use serde_json::to_string;
-use std::alloc::Global;
+use std::alloc::{AllocError, Global};
 
 #[derive(Clone, Copy, Serialize)]
 struct Point {
@@ -118,29 +118,46 @@ pub fn push_accepted<'a>(
     push_record(alloc, &told.record(answer.text, Some(goals), None), lines);
 }
 
+// What a run prints for a refusal whose command begins on this line.
+fn printed_refusal(
+    alloc: Global,
+    line: usize,
+    fault: &Fault,
+    row: &str,
+) -> Result<String, AllocError> {
+    let number = fault.number();
+    let name = fault.name();
+    format!(in alloc; "line {line}: E{number} {name}{row}\n")
+}
+
+// A refusal of which a message is on what stands at an offset.
+fn refusal_of<'a>(told: &Told<'_>, fault: &Fault, at: usize, message: &'a str) -> Refusal<'a> {
+    let (_file, here) = told.located(at);
+    Refusal {
+        number: fault.number(),
+        name: fault.name(),
+        line: here.line,
+        column: here.column,
+        message,
+    }
+}
+
 /// Puts the line of a command at the end that is refused, with what is said of it. Behind the name of the refusal a run prints a row.
 pub fn push_refused<'a>(
     alloc: Global,
     told: &'a Told<'a>,
-    refused: (&'a Fault, &str),
+    refused: (&Fault, &str),
     message: &'a Message,
     lines: &mut Message,
 ) {
     let (fault, row) = refused;
-    let line = told.place_at(told.piece.start(0)).line;
-    let number = fault.number();
-    let name = fault.name();
-    let printed = format!(in alloc; "line {line}: E{number} {name}{row}\n");
-    let (Some(said), Some(text)) = (lines.made(message.text()), lines.made(printed)) else {
+    let Some(said) = lines.made(message.text()) else {
         return;
     };
-    let (_file, here) = told.located(message.at);
-    let refusal = Refusal {
-        number,
-        name,
-        line: here.line,
-        column: here.column,
-        message: said,
-    };
-    push_record(alloc, &told.record(&text, None, Some(refusal)), lines);
+    let line = told.place_at(told.piece.start(0)).line;
+    let printed = printed_refusal(alloc, line, fault, row);
+    if let Some(text) = lines.made(printed) {
+        let refusal = refusal_of(told, fault, message.at, said);
+        push_record(alloc, &told.record(&text, None, Some(refusal)), lines);
+    }
 }
