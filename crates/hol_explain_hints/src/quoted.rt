@@ -239,13 +239,16 @@ fn read<T: Drop>(answer: Result<T, ReadError>) -> Result<T, Fault> {
     }
 }
 
-/// Says what is wrong with a quoted text that is refused so as a term, where it is.
+/// Says what is wrong with a quoted text that is refused so as a term, where it is. Of a term that is too large no place is told.
 pub(crate) fn in_quote<'a>(
     teller: Teller<'a>,
     message: &mut Message,
     piece: &'a Piece<'a>,
     fault: &Fault,
 ) {
+    if *fault == Fault::TooLarge {
+        return;
+    }
     let (alloc, scope) = (teller.alloc, &teller.known.scope);
     let Some(tokens) = message.given(read(tokens_in(alloc, piece.bytes))) else {
         return;
