@@ -26,7 +26,7 @@ SCRIPT = """var p : bool ;; var q : bool ;; var f : A->A ;; var x : A ;;
 newtype num ;; newconst zero : num ;; def twice = `\\g:A->A. \\y:A. g (g y)` ;;
 thm a = ASSUME `p /\\ q` ;; thm b = CONJUNCT1 a ;; thm c = DISCH `p /\\ q` b ;; thm d = TAUT `p ==> q ==> p` ;;
 thm e = REFL `f x` ;; thm g = INST [`q`, `p`] c ;; thm k = CONV (ONCE_DEPTH_CONV BETA_CONV) `(\\y:A. f y) x` ;;
-goal `!z:A. p ==> p /\\ (f x = f x)` ;; e GEN_TAC THEN DISCH_TAC THEN CONJ_TAC ;; p ;; r 1 ;; e REFL_TAC ;; b ;; b ;;
+goal `!z:A. p ==> p /\\ (f x = f x)` ;; e GEN_TAC THEN DISCH_TAC THEN CONJ_TAC ;; p ;; r 1 ;; e REFL_TAC ;; b ;; b ;; b ;;
 e GEN_TAC THEN DISCH_TAC THEN CONJ_TAC THENL [ASSUMPTION_TAC; REFL_TAC] ;; save h ;; show h ;;
 thm bad = CONJUNCT1 d ;; goal `zero = zero` ;; e REWRITE_TAC [d] ;;
 """
