@@ -152,16 +152,20 @@ fn push_alternatives(case: &Case<'_>, part: &Part, message: &mut Message) {
     }
 }
 
-// Puts the row of values at the end that makes a formula false, each with its atom.
-fn push_row(case: &Case<'_>, formula: &Term, row: &[bool], message: &mut Message) {
-    let Some(atoms) = message.given(atoms(case.teller.alloc, formula)) else {
-        return;
-    };
+// Puts a row of values at the end, each with its atom.
+fn push_values(case: &Case<'_>, atoms: &[Term], row: &[bool], message: &mut Message) {
     for at in 0..atoms.len().min(row.len()) {
         let lead = if at == 0 { ": " } else { ", " };
         let value = if row[at] { "=T" } else { "=F" };
         case.teller
             .push(message, &[Text(lead), Bare(&atoms[at]), Text(value)]);
+    }
+}
+
+// Puts the row of values at the end that makes a formula false.
+fn push_row(case: &Case<'_>, formula: &Term, row: &[bool], message: &mut Message) {
+    if let Some(atoms) = message.given(atoms(case.teller.alloc, formula)) {
+        push_values(case, &atoms, row, message);
     }
 }
 

@@ -26,20 +26,31 @@ fn occurs(alloc: Global, premise: &Premise, variable: &Ty, notes: &mut Message) 
     has(alloc, &premise.conclusion, variable, notes)
 }
 
-// Says that the type variable that the word at a place in the list quotes is none of a theorem, where it is none.
-fn push_absent(of: &Accepted<'_>, notes: &mut Message, at: usize, premise: &Premise) {
-    let read = read_type(of.alloc, &of.known.scope, of.told.piece.quoted(at));
-    let Some(variable) = notes.given(read) else {
+// Says that the type variable at a place in the list is none of a theorem, where it is none.
+fn push_absent<'b>(
+    of: &Accepted<'_>,
+    notes: &mut Message,
+    at: usize,
+    variable: &'b Ty,
+    premise: &'b Premise,
+) {
+    if occurs(of.alloc, premise, variable, notes) {
         return;
-    };
-    if !occurs(of.alloc, premise, &variable, notes) {
-        let parts = [
-            Text("nothing is put for "),
-            Type(&variable),
-            Text(", which is no type variable of "),
-            Quoted(premise.name()),
-        ];
-        of.push(notes, of.told.piece.start(at), &parts);
+    }
+    let parts = [
+        Text("nothing is put for "),
+        Type(variable),
+        Text(", which is no type variable of "),
+        Quoted(premise.name()),
+    ];
+    of.push(notes, of.told.piece.start(at), &parts);
+}
+
+// The same of the type variable that the word at a place in the list quotes.
+fn push_quoted(of: &Accepted<'_>, notes: &mut Message, at: usize, premise: &Premise) {
+    let read = read_type(of.alloc, &of.known.scope, of.told.piece.quoted(at));
+    if let Some(variable) = notes.given(read) {
+        push_absent(of, notes, at, &variable, premise);
     }
 }
 
@@ -52,7 +63,7 @@ pub(crate) fn push_types(of: &Accepted<'_>, notes: &mut Message) {
         if of.told.piece.kind(at) == Kind::Quote
             && of.told.piece.text(at.saturating_sub(1)) == ","
         {
-            push_absent(of, notes, at, premise);
+            push_quoted(of, notes, at, premise);
         }
     }
 }

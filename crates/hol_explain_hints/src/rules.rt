@@ -164,18 +164,24 @@ fn free_in_hypothesis(case: &Case<'_>, message: &mut Message) {
     case.say(message, variable.at, &parts);
 }
 
+// Says the first of the variables that are free in the term of a definition.
+fn not_closed_by(case: &Case<'_>, message: &mut Message, at: usize, variables: &[Term]) {
+    let Some(variable) = variables.first() else {
+        return;
+    };
+    let parts = [
+        Text(sentence(case.fault)),
+        Text(", and "),
+        Shown(variable),
+        Text(" is free in it"),
+    ];
+    case.say(message, at, &parts);
+}
+
 // Says the first variable that is free in the term of a definition.
 fn not_closed(case: &Case<'_>, message: &mut Message, found: &Quotation) {
     if let Some(variables) = message.given(frees(case.teller.alloc, &found.term)) {
-        if let Some(variable) = variables.first() {
-            let parts = [
-                Text(sentence(case.fault)),
-                Text(", and "),
-                Shown(variable),
-                Text(" is free in it"),
-            ];
-            case.say(message, found.at, &parts);
-        }
+        not_closed_by(case, message, found.at, &variables);
     }
 }
 
