@@ -46,6 +46,20 @@ impl<'s, H> Walk<'s, H> {
             makes_records: false,
         }
     }
+
+    // With what parts of a command are tried.
+    fn trial<'a>(&'a self, piece: &'a Piece<'a>) -> Trial<'a, H> {
+        Trial {
+            alloc: self.alloc,
+            host: self.host,
+            piece,
+        }
+    }
+
+    // A command behind a place, and the mark that ends it.
+    fn told<'a>(&'a self, piece: &'a Piece<'a>, place: &Place, mark: &'a [u8]) -> Told<'a> {
+        Told::new(self.script.origins, piece, *place, mark)
+    }
 }
 
 // Puts what is said of a refused command at the end, behind the line of the refusal or as a record.
@@ -80,15 +94,22 @@ fn explain_refused<H: Refiners>(
     requires { IsManager manager.old }
     ensures { IsManager manager.new }
 {
-    let trial = Trial {
-        alloc: walk.alloc,
-        host: walk.host,
-        piece: told.piece,
-    };
+    let trial = walk.trial(told.piece);
     let host_names = walk.script.host_names;
     let mut message = Message::new(walk.alloc);
     explain_command(&trial, host_names, known, manager, refused, &mut message);
     tell_refused(walk, told, refused, &message, lines);
+}
+
+// Puts the record of a command at the end that is accepted.
+fn push_answer<'a>(
+    alloc: Global,
+    told: &'a Told<'a>,
+    text: &'a str,
+    shows_goals: bool,
+    lines: &mut Message,
+) {
+    push_accepted(alloc, told, Answer { text, shows_goals }, lines);
 }
 
 // Tells a command that is accepted.
@@ -104,12 +125,7 @@ fn tell_accepted<H: Refiners>(
     ensures { IsManager manager.new }
 {
     if !walk.makes_records {
-        let trial = Trial {
-            alloc: walk.alloc,
-            host: walk.host,
-            piece: told.piece,
-        };
-        note_command(&trial, told, known, manager, lines);
+        note_command(&walk.trial(told.piece), told, known, manager, lines);
         return;
     }
     let (text, shows_goals) = match printed {
@@ -117,7 +133,7 @@ fn tell_accepted<H: Refiners>(
         Printed::Line(line) => (line.text.as_str(), false),
         Printed::Goals(text) => (text.as_str(), true),
     };
-    push_accepted(walk.alloc, told, Answer { text, shows_goals }, lines);
+    push_answer(walk.alloc, told, text, shows_goals, lines);
 }
 
 // Runs a command, and puts what is told of it at the end. Answers whether it was refused.
@@ -125,28 +141,47 @@ fn answer<H: Refiners>(
     walk: &Walk<'_, H>,
     known: &mut Known,
     manager: &mut Manager,
-    told: &Told<'_>,
+    piece: &Piece<'_>,
+    place: &Place,
     lines: &mut Message,
 ) -> bool
     requires { IsManager manager.old }
     ensures { IsManager manager.new }
 {
     let alloc = walk.alloc;
-    match execute(manager, alloc, walk.host, told.piece.bytes) {
+    let told = walk.told(piece, place, b";;");
+    match execute(manager, alloc, walk.host, piece.bytes) {
         Ok(printed) => {
-            tell_accepted(walk, known, manager, told, &printed, lines);
+            tell_accepted(walk, known, manager, &told, &printed, lines);
             let goals = match &printed {
                 Printed::Goals(text) => Some(text.as_str()),
                 _ => None,
             };
-            let _learnt = lines.made(learn(alloc, known, told, goals));
+            let _learnt = lines.made(learn(alloc, known, &told, goals));
             false
         }
         Err(refused) => {
-            explain_refused(walk, known, manager, told, &refused, lines);
-            let _missed = lines.made(miss(alloc, known, told));
+            explain_refused(walk, known, manager, &told, &refused, lines);
+            let _missed = lines.made(miss(alloc, known, &told));
             true
         }
+    }
+}
+
+// Explains a command that is refused when a script begins.
+fn explain_begin<H: Refiners>(
+    walk: &Walk<'_, H>,
+    piece: &Piece<'_>,
+    refused: &Refused,
+    lines: &mut Message,
+) {
+    let told = walk.told(piece, &Place::start(), b";;");
+    let Some(known) = lines.made(Known::new(walk.alloc)) else {
+        return;
+    };
+    match Manager::new(walk.alloc) {
+        Ok(mut manager) => explain_refused(walk, &known, &mut manager, &told, refused, lines),
+        Err(fault) => lines.push_made(Err(fault)),
     }
 }
 
@@ -156,16 +191,8 @@ fn explain_first<H: Refiners>(walk: &Walk<'_, H>, refused: &Refused, lines: &mut
         Some((command, _)) => command,
         None => walk.script.text,
     };
-    let Some(piece) = lines.made(Piece::new(walk.alloc, command)) else {
-        return;
-    };
-    let Some(known) = lines.made(Known::new(walk.alloc)) else {
-        return;
-    };
-    let told = Told::new(walk.script.origins, &piece, Place::start(), b";;");
-    match Manager::new(walk.alloc) {
-        Ok(mut manager) => explain_refused(walk, &known, &mut manager, &told, refused, lines),
-        Err(fault) => lines.push_made(Err(fault)),
+    if let Some(piece) = lines.made(Piece::new(walk.alloc, command)) {
+        explain_begin(walk, &piece, refused, lines);
     }
 }
 
@@ -203,12 +230,18 @@ pub(crate) fn explain_piece<W: Sink, H: Refiners>(
         return Err(Fault::Memory);
     };
     let mut lines = Message::new(walk.alloc);
-    let told = Told::new(walk.script.origins, &piece, *place, b";;");
-    let is_refused = answer(walk, known, manager, &told, &mut lines);
+    let is_refused = answer(walk, known, manager, &piece, place, &mut lines);
     match write_lines(writer, &lines) {
         Ok(()) => Ok(is_refused),
         Err(fault) => Err(fault),
     }
+}
+
+// Tells a rest without a mark behind it, which begins at a place.
+fn tell_unended<H>(walk: &Walk<'_, H>, rest: &Piece<'_>, place: &Place, lines: &mut Message) {
+    let told = walk.told(rest, place, b"");
+    let message = unended(walk.alloc, rest.start(0));
+    tell_refused(walk, &told, &Refused::plain(Fault::Syntax), &message, lines);
 }
 
 /// Writes what is told of a rest without a mark behind it, where it holds more than white space. Answers whether it does.
@@ -228,15 +261,7 @@ pub(crate) fn explain_rest<W: Sink, H: Refiners>(
         return Err(Fault::Memory);
     };
     let mut lines = Message::new(walk.alloc);
-    let told = Told::new(walk.script.origins, &rest, *place, b"");
-    let message = unended(walk.alloc, rest.start(0));
-    tell_refused(
-        walk,
-        &told,
-        &Refused::plain(Fault::Syntax),
-        &message,
-        &mut lines,
-    );
+    tell_unended(walk, &rest, place, &mut lines);
     match write_lines(writer, &lines) {
         Ok(()) => Ok(true),
         Err(fault) => Err(fault),
