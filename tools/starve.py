@@ -2,11 +2,10 @@
 """starve.py PROGRAM [EACH]: refuses each allocation in turn, or each EACH-th, to small runs of a build of `holp`: a script is run, with its
 log, messages, goals and records, and the log is checked, reviewed and migrated.
 
-A run in which an allocation was refused may end by a status above 0, and each whole line that it wrote has to be one of the run that was
-refused nothing, or a refusal. It may not end by a signal, nor by status 0 with other output. Status 1: one did. The program has to take
+A run in which an allocation was refused ends by a status above 0, and what it wrote before the first `E1 Memory` is a front of what the run
+wrote that was refused nothing. It may not end by a signal, nor by status 0 with other output. Status 1: one did. The program has to take
 memory by the C library's `malloc` and `realloc`, as what native.sh builds does."""
 import os
-import re
 import subprocess
 import sys
 import tempfile
@@ -48,9 +47,8 @@ def is_wrong(ran, whole):
         return f"signal {-ran.returncode}"
     if ran.returncode == 0 and ran.stdout != whole.stdout:
         return "status 0, and other output"
-    known = set(whole.stdout.split(b"\n"))
-    other = [it for it in ran.stdout.split(b"\n")[:-1] if it not in known and not re.search(rb"E1 Memory|^line \d+: E|^\{.*\"refusal\":\{", it)]
-    return f"another line: {other[0][:100]!r}" if other else None
+    front = ran.stdout.split(b"E1 Memory")[0].rsplit(b"\n", 1)[0]
+    return None if whole.stdout.startswith(front) else f"not a front: {front[-100:]!r}"
 
 
 program, each = os.path.abspath(sys.argv[1]), int(sys.argv[2]) if len(sys.argv) > 2 else 1
