@@ -1,6 +1,6 @@
 #!/usr/bin/env python3
-"""edits.py LOG.. [--write]: compares where each must-fail edit was refused, as the output of `rt ci` or `rt must-fail` in these files tells
-it, with the table tools/edits.txt; with --write it writes what it found into the table.
+"""edits.py LOG.. [--write]: compares where each must-fail edit was refused, as the output of `rt ci`, `rt must-fail` or judge.py in these files
+tells it, with the table tools/edits.txt; with --write it writes what it found into the table.
 
 An edit counts only if it is refused at the clause that it is for. The table has a line for each edit: CRATE/EDIT, and the file and the goal
 or definition that fails first. A line that changes wants a look: has the clause moved, or does the edit fail elsewhere now?
@@ -10,7 +10,7 @@ import re
 import sys
 
 TABLE = os.path.join(os.path.dirname(os.path.abspath(__file__)), "edits.txt")
-TOLD = re.compile(r"must-fail (\S+/\S+?\.edit): refused, as it must be(.*)$")
+TOLD = re.compile(r"must-fail (\S+/\S+?\.(?:edit|md)): refused, as it must be(.*)$")
 
 
 def place_of(said):
