@@ -47,7 +47,8 @@ def is_wrong(ran, whole):
         return f"signal {-ran.returncode}"
     if ran.returncode == 0 and ran.stdout != whole.stdout:
         return "status 0, and other output"
-    front = ran.stdout.split(b"E1 Memory")[0].rsplit(b"\n", 1)[0]
+    before = ran.stdout.split(b"E1 Memory")[0]
+    front = before[: before.rfind(b"\n") + 1]
     return None if whole.stdout.startswith(front) else f"not a front: {front[-100:]!r}"
 
 
