@@ -11,6 +11,26 @@ use hol_model::Fault;
 use hol_script::{Manager, Printed, Refused};
 use std::alloc::Global;
 
+// The stored theorem whose name stands at a place in the list.
+fn premise(
+    alloc: Global,
+    known: &Known,
+    manager: &Manager,
+    piece: &Piece<'_>,
+    at: usize,
+    message: &mut Message,
+) -> Option<Premise>
+    requires { IsManager manager.now }
+{
+    let name = piece.text(at);
+    match message.given(manager.show(alloc, name)) {
+        Some(Printed::Line(line)) => {
+            Premise::read(alloc, known, line.text, at, name.len(), message)
+        }
+        _ => None,
+    }
+}
+
 // Puts the theorems at the end that a part of a command names.
 fn push_premises(
     alloc: Global,
@@ -25,13 +45,7 @@ fn push_premises(
 {
     for at in span.from..span.to {
         if is_looked_up(piece, at) {
-            let name = piece.text(at);
-            let premise = match message.given(manager.show(alloc, name)) {
-                Some(Printed::Line(line)) => {
-                    Premise::read(alloc, known, line.text, at, name.len(), message)
-                }
-                _ => None,
-            };
+            let premise = premise(alloc, known, manager, piece, at, message);
             let _pushed = message.made(premises.push(premise));
         }
     }
