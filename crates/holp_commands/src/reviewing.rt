@@ -1,6 +1,6 @@
 // Tells what a checked log says, for its reviewer.
 
-use hol_check::{CheckedLog, EntryParts};
+use hol_check::{CheckedLog, EntryParts, LogEntry};
 use hol_check_review::{Remark, remark_on, write_review};
 use hol_device_adapters::IntoCall;
 use hol_model::Fault;
@@ -32,15 +32,7 @@ impl Counts {
             warnings: not_printed,
         };
         for entry in &log.entries {
-            match entry.parts() {
-                EntryParts::Definition(_, _, _) => add(&mut counts.definitions),
-                EntryParts::DeclaredType(_) | EntryParts::DeclaredConstant(_, _) => {
-                    add(&mut counts.declarations);
-                }
-            }
-            if remark_on(entry) == Remark::Unusual {
-                add(&mut counts.warnings);
-            }
+            counts.add_entry(entry);
         }
         for claim in &log.claims {
             if claim.hyp_count() == 0 {
@@ -51,6 +43,27 @@ impl Counts {
         }
         counts
     }
+
+    fn add_entry(&mut self, entry: &LogEntry) {
+        match entry.parts() {
+            EntryParts::Definition(_, _, _) => add(&mut self.definitions),
+            EntryParts::DeclaredType(_) | EntryParts::DeclaredConstant(_, _) => {
+                add(&mut self.declarations);
+            }
+        }
+        if remark_on(entry) == Remark::Unusual {
+            add(&mut self.warnings);
+        }
+    }
+}
+
+// Prints a number behind its title.
+fn print_count(rt: &HostRuntime, title: &str, count: u64) -> Result<(), Fault> {
+    let mut digits = Buffer::new();
+    match println!(rt; "{title}: {}", digits.format(count)) {
+        Ok(()) => Ok(()),
+        Err(_) => Err(Fault::WriteFault),
+    }
 }
 
 fn print_counts(rt: &HostRuntime, counts: Counts) -> Result<(), Fault> {
@@ -58,22 +71,11 @@ fn print_counts(rt: &HostRuntime, counts: Counts) -> Result<(), Fault> {
         Ok(()) => {}
         Err(_) => return Err(Fault::WriteFault),
     }
-    let lines = [
-        ("definitions", counts.definitions),
-        ("declarations", counts.declarations),
-        ("claims without hypotheses", counts.claims),
-        ("claims with hypotheses", counts.claims_with_hypotheses),
-        ("warnings", counts.warnings),
-    ];
-    for at in 0..lines.len() {
-        let (title, count) = lines[at];
-        let mut digits = Buffer::new();
-        match println!(rt; "{title}: {}", digits.format(count)) {
-            Ok(()) => {}
-            Err(_) => return Err(Fault::WriteFault),
-        }
-    }
-    Ok(())
+    print_count(rt, "definitions", counts.definitions)?;
+    print_count(rt, "declarations", counts.declarations)?;
+    print_count(rt, "claims without hypotheses", counts.claims)?;
+    print_count(rt, "claims with hypotheses", counts.claims_with_hypotheses)?;
+    print_count(rt, "warnings", counts.warnings)
 }
 
 /// Prints the theory of a log, its claims without hypotheses and those with hypotheses, and how many there are of each.
