@@ -10,7 +10,6 @@ use Rattle.hol_model.specs.Kernel.Theorem.{Theorem, IsTheorem}
 use Rattle.hol_model.specs.Kernel.Rules.{refl_outcome, assume_outcome, trans_outcome, eq_mp_outcome, mk_comb_outcome, abs_outcome, beta_outcome, deduct_antisym_outcome, define_outcome}
 use Rattle.hol_model.specs.Kernel.Instantiation.{IsInst, IsInstType, replacements_refusal, inst_refusal, inst_type_refusal}
 use Rattle.hol_kernel.specs.KnownFormula.{IsKnownFormula}
-use Rattle.hol_kernel.specs.Fits.{TransFits, EqMpFits}
 use Rattle.hol_journal.specs.Steps.{Step, by_refl, by_trans, by_mk_comb, by_abs, by_beta, by_assume, by_eq_mp, by_deduct, by_inst, by_inst_type, by_definition, sequent_of_theorem}
 use Rattle.hol_journal.specs.Limits.{FitsLog, pair_fits, type_pair_fits}
 use Rattle.hol_journal.specs.Journal.{Journal, Recorded, HasTheorem, Follows, IsJournal, IsMade}
@@ -39,11 +38,8 @@ formula_in_view shown now term same known = subst (λ (j : Journal). IsKnownForm
 pub pairs_in_view : (shown now : Journal) (theta : List (NamedTerm × NamedTerm)) → shown ≡ now → replacements_refusal now.theory theta ≡ None → replacements_refusal shown.theory theta ≡ None
 pairs_in_view shown now theta same known = subst (λ (j : Journal). replacements_refusal j.theory theta ≡ None) (sym same) known
 
-pub trans_fits_in_view : (first second one two : Recorded) → first ≡ one → second ≡ two → TransFits one.theorem two.theorem → TransFits first.theorem second.theorem
-trans_fits_in_view first second one two same_first same_second fits = rw (same_first, same_second) fits
-
-pub eq_mp_fits_in_view : (first second one two : Recorded) → first ≡ one → second ≡ two → EqMpFits one.theorem two.theorem → EqMpFits first.theorem second.theorem
-eq_mp_fits_in_view first second one two same_first same_second fits = rw (same_first, same_second) fits
+pub pair_in_view : (holds : Theorem → Theorem → Type 0) → (first second one two : Recorded) → first ≡ one → second ≡ two → holds one.theorem two.theorem → holds first.theorem second.theorem
+pair_in_view holds first second one two same_first same_second is = rw (same_first, same_second) is
 
 -- what a step cites
 

@@ -1,5 +1,5 @@
 // The recorder.
-ghost use Rattle.std.specs.Prelude.{◌≡◌, [], ◌∷◌, ◌++◌, true, None, length, IfOk, IfErr, OnErr, OnOk};
+ghost use Rattle.std.specs.Prelude.{◌≡◌, [], ◌∷◌, ◌++◌, true, None, Ok, length, IfOk, IfErr, OnErr, OnOk};
 ghost use Rattle.hol_model.specs.Kernel.Instantiation as instance;
 ghost use Rattle.hol_model.specs.Kernel.NamedAxioms as axioms;
 ghost use Rattle.hol_model.specs.Kernel.Outcome.{Answers, AnswersSuch};
@@ -162,7 +162,7 @@ impl Recorder {
 
     // The theorem with an entry of its own.
     fn record(&mut self, alloc: Global, rule: Rule, theorem: Thm) -> Result<Rec, Fault>
-        requires follows { Follows self.old.entries (step_of rule) (sequent_of_theorem theorem) }
+        requires follows { IsJournal self.old → Follows self.old.entries (step_of rule) (sequent_of_theorem theorem) }
         requires stands_on { theorem.theory ≡ self.old.theory }
         ensures ok { IfOk result (λ made. made.theorem ≡ theorem) }
         ensures recorded { IfOk result (IsRecorded self.old self.new (step_of rule)) }
@@ -170,11 +170,126 @@ impl Recorder {
         ensures kept { OnErr result (self.new ≡ self.old) }
     {
         let entry = self.entries.len();
-        match self.entries.push_step(alloc, rule, &theorem) {
-            Ok(()) => {}
-            Err(fault) => return Err(fault),
-        }
+        self.entries.push_step(alloc, rule, &theorem)?;
         Ok(Rec { theorem, entry })
+    }
+
+    // REFL's theorem of the term, with an entry.
+    fn record_refl(&mut self, alloc: Global, term: &Term, theorem: Thm) -> Result<Rec, Fault>
+        requires outcome { outcome.refl_outcome self.old.theory term.now ≡ Ok theorem }
+        requires stands_on { theorem.theory ≡ self.old.theory }
+        ensures ok { IfOk result (λ made. made.theorem ≡ theorem) }
+        ensures recorded { IfOk result (IsRecorded self.old self.new (steps.by_refl term.now)) }
+        ensures err { IfErr result (λ fault. fault ≡ Memory) }
+        ensures kept { OnErr result (self.new ≡ self.old) }
+    {
+        within_limits(&theorem);
+        term.well_formed();
+        let _type = term.ty();
+        let rule = Rule::Refl(term.copy(alloc)?);
+        self.record(alloc, rule, theorem)
+    }
+
+    // ASSUME's theorem of the term, with an entry.
+    fn record_assume(&mut self, alloc: Global, term: &Term, theorem: Thm) -> Result<Rec, Fault>
+        requires outcome { outcome.assume_outcome self.old.theory term.now ≡ Ok theorem }
+        requires stands_on { theorem.theory ≡ self.old.theory }
+        ensures ok { IfOk result (λ made. made.theorem ≡ theorem) }
+        ensures recorded { IfOk result (IsRecorded self.old self.new (steps.by_assume term.now)) }
+        ensures err { IfErr result (λ fault. fault ≡ Memory) }
+        ensures kept { OnErr result (self.new ≡ self.old) }
+    {
+        within_limits(&theorem);
+        term.well_formed();
+        let _type = term.ty();
+        let rule = Rule::Assume(term.copy(alloc)?);
+        self.record(alloc, rule, theorem)
+    }
+
+    // BETA's theorem of the term, with an entry.
+    fn record_beta(&mut self, alloc: Global, term: &Term, theorem: Thm) -> Result<Rec, Fault>
+        requires outcome { outcome.beta_outcome self.old.theory term.now ≡ Ok theorem }
+        requires stands_on { theorem.theory ≡ self.old.theory }
+        ensures ok { IfOk result (λ made. made.theorem ≡ theorem) }
+        ensures recorded { IfOk result (IsRecorded self.old self.new (steps.by_beta term.now)) }
+        ensures err { IfErr result (λ fault. fault ≡ Memory) }
+        ensures kept { OnErr result (self.new ≡ self.old) }
+    {
+        within_limits(&theorem);
+        term.well_formed();
+        let _type = term.ty();
+        let rule = Rule::Beta(term.copy(alloc)?);
+        self.record(alloc, rule, theorem)
+    }
+
+    // TRANS's theorem of the two, with an entry.
+    fn record_trans(
+        &mut self,
+        alloc: Global,
+        first: &Rec,
+        second: &Rec,
+        theorem: Thm,
+    ) -> Result<Rec, Fault>
+        requires first { IsMade self.old first.now }
+        requires second { IsMade self.old second.now }
+        requires outcome { outcome.trans_outcome self.old.theory first.now.theorem second.now.theorem ≡ Ok theorem }
+        requires stands_on { theorem.theory ≡ self.old.theory }
+        ensures ok { IfOk result (λ made. made.theorem ≡ theorem) }
+        ensures recorded { IfOk result (IsRecorded self.old self.new (steps.by_trans first.now.entry second.now.entry)) }
+        ensures err { IfErr result (λ fault. fault ≡ Memory) }
+        ensures kept { OnErr result (self.new ≡ self.old) }
+    {
+        within_limits(&theorem);
+        let _first = first.theorem.concl();
+        let _second = second.theorem.concl();
+        self.record(alloc, Rule::Trans(first.entry, second.entry), theorem)
+    }
+
+    // EQ_MP's theorem of the two, with an entry.
+    fn record_eq_mp(
+        &mut self,
+        alloc: Global,
+        first: &Rec,
+        second: &Rec,
+        theorem: Thm,
+    ) -> Result<Rec, Fault>
+        requires first { IsMade self.old first.now }
+        requires second { IsMade self.old second.now }
+        requires outcome { outcome.eq_mp_outcome self.old.theory first.now.theorem second.now.theorem ≡ Ok theorem }
+        requires stands_on { theorem.theory ≡ self.old.theory }
+        ensures ok { IfOk result (λ made. made.theorem ≡ theorem) }
+        ensures recorded { IfOk result (IsRecorded self.old self.new (steps.by_eq_mp first.now.entry second.now.entry)) }
+        ensures err { IfErr result (λ fault. fault ≡ Memory) }
+        ensures kept { OnErr result (self.new ≡ self.old) }
+    {
+        within_limits(&theorem);
+        let _first = first.theorem.concl();
+        let _second = second.theorem.concl();
+        self.record(alloc, Rule::EqMp(first.entry, second.entry), theorem)
+    }
+
+    // An instance of the theorem by INST, with an entry.
+    fn record_inst(
+        &mut self,
+        alloc: Global,
+        theta: &[(Term, Term)],
+        theorem: &Rec,
+        answer: Thm,
+    ) -> Result<Rec, Fault>
+        requires theorem { IsMade self.old theorem.now }
+        requires accepted { instance.inst_refusal self.old.theory theta.now theorem.now.theorem ≡ None }
+        requires instance { instance.IsInst self.old.theory theta.now theorem.now.theorem answer }
+        requires stands_on { answer.theory ≡ self.old.theory }
+        ensures ok { IfOk result (λ made. made.theorem ≡ answer) }
+        ensures recorded { IfOk result (IsRecorded self.old self.new (steps.by_inst theorem.now.entry theta.now)) }
+        ensures err { IfErr result (λ fault. fault ≡ Memory) }
+        ensures kept { OnErr result (self.new ≡ self.old) }
+    {
+        within_limits(&answer);
+        pairs_fit(theta);
+        let _theorem = theorem.theorem.concl();
+        let rule = Rule::Inst(theorem.entry, copied_terms(alloc, theta)?);
+        self.record(alloc, rule, answer)
     }
 
     /// REFL: `|- t = t`. Walks the term; for one that a proof shows to be known, `refl_known`.
@@ -183,15 +298,8 @@ impl Recorder {
         ensures recorded { IfOk result (IsRecorded self.old self.new (steps.by_refl term.now)) }
         ensures kept { OnErr result (self.new ≡ self.old) }
     {
-        let theorem = match self.theory.refl(alloc, term) {
-            Ok(theorem) => theorem,
-            Err(fault) => return Err(fault),
-        };
-        within_limits(&theorem);
-        term.well_formed();
-        let _type = term.ty();
-        let rule = Rule::Refl(term.copy(alloc)?);
-        self.record(alloc, rule, theorem)
+        let theorem = self.theory.refl(alloc, term)?;
+        self.record_refl(alloc, term, theorem)
     }
 
     /// REFL of a term that the theory knows, which is not walked for it.
@@ -201,15 +309,8 @@ impl Recorder {
         ensures recorded { IfOk result (IsRecorded self.old self.new (steps.by_refl term.now)) }
         ensures kept { OnErr result (self.new ≡ self.old) }
     {
-        let theorem = match self.theory.refl_known(alloc, term) {
-            Ok(theorem) => theorem,
-            Err(fault) => return Err(fault),
-        };
-        within_limits(&theorem);
-        term.well_formed();
-        let _type = term.ty();
-        let rule = Rule::Refl(term.copy(alloc)?);
-        self.record(alloc, rule, theorem)
+        let theorem = self.theory.refl_known(alloc, term)?;
+        self.record_refl(alloc, term, theorem)
     }
 
     /// ASSUME: `p |- p`. Walks the term; for a formula that a proof shows to be known, `assume_known`.
@@ -218,15 +319,8 @@ impl Recorder {
         ensures recorded { IfOk result (IsRecorded self.old self.new (steps.by_assume term.now)) }
         ensures kept { OnErr result (self.new ≡ self.old) }
     {
-        let theorem = match self.theory.assume(alloc, term) {
-            Ok(theorem) => theorem,
-            Err(fault) => return Err(fault),
-        };
-        within_limits(&theorem);
-        term.well_formed();
-        let _type = term.ty();
-        let rule = Rule::Assume(term.copy(alloc)?);
-        self.record(alloc, rule, theorem)
+        let theorem = self.theory.assume(alloc, term)?;
+        self.record_assume(alloc, term, theorem)
     }
 
     /// ASSUME of a formula that the theory knows, which is not walked for it.
@@ -236,15 +330,8 @@ impl Recorder {
         ensures recorded { IfOk result (IsRecorded self.old self.new (steps.by_assume term.now)) }
         ensures kept { OnErr result (self.new ≡ self.old) }
     {
-        let theorem = match self.theory.assume_known(alloc, term) {
-            Ok(theorem) => theorem,
-            Err(fault) => return Err(fault),
-        };
-        within_limits(&theorem);
-        term.well_formed();
-        let _type = term.ty();
-        let rule = Rule::Assume(term.copy(alloc)?);
-        self.record(alloc, rule, theorem)
+        let theorem = self.theory.assume_known(alloc, term)?;
+        self.record_assume(alloc, term, theorem)
     }
 
     /// BETA: `|- (\x. t) x = t`. Walks the redex; for a term that a proof shows to be known, `beta_known`.
@@ -253,15 +340,8 @@ impl Recorder {
         ensures recorded { IfOk result (IsRecorded self.old self.new (steps.by_beta term.now)) }
         ensures kept { OnErr result (self.new ≡ self.old) }
     {
-        let theorem = match self.theory.beta(alloc, term) {
-            Ok(theorem) => theorem,
-            Err(fault) => return Err(fault),
-        };
-        within_limits(&theorem);
-        term.well_formed();
-        let _type = term.ty();
-        let rule = Rule::Beta(term.copy(alloc)?);
-        self.record(alloc, rule, theorem)
+        let theorem = self.theory.beta(alloc, term)?;
+        self.record_beta(alloc, term, theorem)
     }
 
     /// BETA of a term that the theory knows, which is not walked for it.
@@ -271,15 +351,8 @@ impl Recorder {
         ensures recorded { IfOk result (IsRecorded self.old self.new (steps.by_beta term.now)) }
         ensures kept { OnErr result (self.new ≡ self.old) }
     {
-        let theorem = match self.theory.beta_known(alloc, term) {
-            Ok(theorem) => theorem,
-            Err(fault) => return Err(fault),
-        };
-        within_limits(&theorem);
-        term.well_formed();
-        let _type = term.ty();
-        let rule = Rule::Beta(term.copy(alloc)?);
-        self.record(alloc, rule, theorem)
+        let theorem = self.theory.beta_known(alloc, term)?;
+        self.record_beta(alloc, term, theorem)
     }
 
     /// TRANS: from `a = b` and `b = c`, `a = c`. Compares the middle terms; where a proof shows that they fit, `trans_known`.
@@ -290,14 +363,8 @@ impl Recorder {
         ensures recorded { IfOk result (IsRecorded self.old self.new (steps.by_trans first.now.entry second.now.entry)) }
         ensures kept { OnErr result (self.new ≡ self.old) }
     {
-        let theorem = match self.theory.trans(alloc, &first.theorem, &second.theorem) {
-            Ok(theorem) => theorem,
-            Err(fault) => return Err(fault),
-        };
-        within_limits(&theorem);
-        let _first = first.theorem.concl();
-        let _second = second.theorem.concl();
-        self.record(alloc, Rule::Trans(first.entry, second.entry), theorem)
+        let theorem = self.theory.trans(alloc, &first.theorem, &second.theorem)?;
+        self.record_trans(alloc, first, second, theorem)
     }
 
     /// TRANS of equations that fit, whose middle terms are not compared for it.
@@ -309,17 +376,10 @@ impl Recorder {
         ensures recorded { IfOk result (IsRecorded self.old self.new (steps.by_trans first.now.entry second.now.entry)) }
         ensures kept { OnErr result (self.new ≡ self.old) }
     {
-        let theorem = match self
+        let theorem = self
             .theory
-            .trans_known(alloc, &first.theorem, &second.theorem)
-        {
-            Ok(theorem) => theorem,
-            Err(fault) => return Err(fault),
-        };
-        within_limits(&theorem);
-        let _first = first.theorem.concl();
-        let _second = second.theorem.concl();
-        self.record(alloc, Rule::Trans(first.entry, second.entry), theorem)
+            .trans_known(alloc, &first.theorem, &second.theorem)?;
+        self.record_trans(alloc, first, second, theorem)
     }
 
     /// EQ_MP: from `p = q` and `p`, `q`. Compares `p` with the left side; where a proof shows that they fit, `eq_mp_known`.
@@ -330,14 +390,8 @@ impl Recorder {
         ensures recorded { IfOk result (IsRecorded self.old self.new (steps.by_eq_mp first.now.entry second.now.entry)) }
         ensures kept { OnErr result (self.new ≡ self.old) }
     {
-        let theorem = match self.theory.eq_mp(alloc, &first.theorem, &second.theorem) {
-            Ok(theorem) => theorem,
-            Err(fault) => return Err(fault),
-        };
-        within_limits(&theorem);
-        let _first = first.theorem.concl();
-        let _second = second.theorem.concl();
-        self.record(alloc, Rule::EqMp(first.entry, second.entry), theorem)
+        let theorem = self.theory.eq_mp(alloc, &first.theorem, &second.theorem)?;
+        self.record_eq_mp(alloc, first, second, theorem)
     }
 
     /// EQ_MP of an equation and its left side, which are not compared for it.
@@ -349,17 +403,10 @@ impl Recorder {
         ensures recorded { IfOk result (IsRecorded self.old self.new (steps.by_eq_mp first.now.entry second.now.entry)) }
         ensures kept { OnErr result (self.new ≡ self.old) }
     {
-        let theorem = match self
+        let theorem = self
             .theory
-            .eq_mp_known(alloc, &first.theorem, &second.theorem)
-        {
-            Ok(theorem) => theorem,
-            Err(fault) => return Err(fault),
-        };
-        within_limits(&theorem);
-        let _first = first.theorem.concl();
-        let _second = second.theorem.concl();
-        self.record(alloc, Rule::EqMp(first.entry, second.entry), theorem)
+            .eq_mp_known(alloc, &first.theorem, &second.theorem)?;
+        self.record_eq_mp(alloc, first, second, theorem)
     }
 
     /// MK_COMB: from `f = g` and `x = y`, `f x = g y`.
@@ -370,10 +417,7 @@ impl Recorder {
         ensures recorded { IfOk result (IsRecorded self.old self.new (steps.by_mk_comb first.now.entry second.now.entry)) }
         ensures kept { OnErr result (self.new ≡ self.old) }
     {
-        let theorem = match self.theory.mk_comb(alloc, &first.theorem, &second.theorem) {
-            Ok(theorem) => theorem,
-            Err(fault) => return Err(fault),
-        };
+        let theorem = self.theory.mk_comb(alloc, &first.theorem, &second.theorem)?;
         within_limits(&theorem);
         let _first = first.theorem.concl();
         let _second = second.theorem.concl();
@@ -388,13 +432,9 @@ impl Recorder {
         ensures recorded { IfOk result (IsRecorded self.old self.new (steps.by_deduct first.now.entry second.now.entry)) }
         ensures kept { OnErr result (self.new ≡ self.old) }
     {
-        let theorem = match self
+        let theorem = self
             .theory
-            .deduct_antisym(alloc, &first.theorem, &second.theorem)
-        {
-            Ok(theorem) => theorem,
-            Err(fault) => return Err(fault),
-        };
+            .deduct_antisym(alloc, &first.theorem, &second.theorem)?;
         within_limits(&theorem);
         let _first = first.theorem.concl();
         let _second = second.theorem.concl();
@@ -412,10 +452,7 @@ impl Recorder {
         ensures recorded { IfOk result (IsRecorded self.old self.new (steps.by_abs binder.now theorem.now.entry)) }
         ensures kept { OnErr result (self.new ≡ self.old) }
     {
-        let answer = match self.theory.abs(alloc, binder, &theorem.theorem) {
-            Ok(answer) => answer,
-            Err(fault) => return Err(fault),
-        };
+        let answer = self.theory.abs(alloc, binder, &theorem.theorem)?;
         within_limits(&answer);
         binder.well_formed();
         let _theorem = theorem.theorem.concl();
@@ -436,15 +473,8 @@ impl Recorder {
         ensures recorded { IfOk result (IsRecorded self.old self.new (steps.by_inst theorem.now.entry theta.now)) }
         ensures kept { OnErr result (self.new ≡ self.old) }
     {
-        let answer = match self.theory.inst(alloc, theta, &theorem.theorem) {
-            Ok(answer) => answer,
-            Err(fault) => return Err(fault),
-        };
-        within_limits(&answer);
-        pairs_fit(theta);
-        let _theorem = theorem.theorem.concl();
-        let rule = Rule::Inst(theorem.entry, copied_terms(alloc, theta)?);
-        self.record(alloc, rule, answer)
+        let answer = self.theory.inst(alloc, theta, &theorem.theorem)?;
+        self.record_inst(alloc, theta, theorem, answer)
     }
 
     /// INST by terms that the theory knows, for variables of their types, which are not walked for it.
@@ -460,15 +490,8 @@ impl Recorder {
         ensures recorded { IfOk result (IsRecorded self.old self.new (steps.by_inst theorem.now.entry theta.now)) }
         ensures kept { OnErr result (self.new ≡ self.old) }
     {
-        let answer = match self.theory.inst_known(alloc, theta, &theorem.theorem) {
-            Ok(answer) => answer,
-            Err(fault) => return Err(fault),
-        };
-        within_limits(&answer);
-        pairs_fit(theta);
-        let _theorem = theorem.theorem.concl();
-        let pairs = copied_terms(alloc, theta)?;
-        self.record(alloc, Rule::Inst(theorem.entry, pairs), answer)
+        let answer = self.theory.inst_known(alloc, theta, &theorem.theorem)?;
+        self.record_inst(alloc, theta, theorem, answer)
     }
 
     /// INST_TYPE: type variables replaced by types, all at once, by a list of pairs (new, old).
@@ -484,10 +507,7 @@ impl Recorder {
         ensures recorded { IfOk result (IsRecorded self.old self.new (steps.by_inst_type theorem.now.entry theta.now)) }
         ensures kept { OnErr result (self.new ≡ self.old) }
     {
-        let answer = match self.theory.inst_type(alloc, theta, &theorem.theorem) {
-            Ok(answer) => answer,
-            Err(fault) => return Err(fault),
-        };
+        let answer = self.theory.inst_type(alloc, theta, &theorem.theorem)?;
         within_limits(&answer);
         type_pairs_fit(theta);
         let _theorem = theorem.theorem.concl();
@@ -502,10 +522,7 @@ impl Recorder {
         ensures recorded { IfOk result (IsRecorded self.old self.new steps.by_eta) }
         ensures kept { OnErr result (self.new ≡ self.old) }
     {
-        let theorem = match self.theory.eta(alloc) {
-            Ok(theorem) => theorem,
-            Err(fault) => return Err(fault),
-        };
+        let theorem = self.theory.eta(alloc)?;
         within_limits(&theorem);
         self.record(alloc, Rule::Eta, theorem)
     }
@@ -517,10 +534,7 @@ impl Recorder {
         ensures recorded { IfOk result (IsRecorded self.old self.new steps.by_select) }
         ensures kept { OnErr result (self.new ≡ self.old) }
     {
-        let theorem = match self.theory.select(alloc) {
-            Ok(theorem) => theorem,
-            Err(fault) => return Err(fault),
-        };
+        let theorem = self.theory.select(alloc)?;
         within_limits(&theorem);
         self.record(alloc, Rule::Select, theorem)
     }
@@ -538,10 +552,7 @@ impl Recorder {
         let number = self.entries.len();
         term.well_formed();
         let _type = term.ty();
-        let theorem = match self.theory.define(alloc, name, term) {
-            Ok(theorem) => theorem,
-            Err(fault) => return Err(fault),
-        };
+        let theorem = self.theory.define(alloc, name, term)?;
         within_limits(&theorem);
         self.entries.push(definition);
         Ok(Rec {
@@ -561,10 +572,7 @@ impl Recorder {
         if self.entries.reserve().is_err() {
             return Err(Fault::Memory);
         }
-        match self.theory.new_type(alloc, name) {
-            Ok(()) => {}
-            Err(fault) => return Err(fault),
-        }
+        self.theory.new_type(alloc, name)?;
         self.entries.push(declared_type);
         Ok(())
     }
@@ -584,10 +592,7 @@ impl Recorder {
             return Err(Fault::Memory);
         }
         type_fit(ty);
-        match self.theory.new_const(alloc, name, ty) {
-            Ok(()) => {}
-            Err(fault) => return Err(fault),
-        }
+        self.theory.new_const(alloc, name, ty)?;
         self.entries.push(declared_constant);
         Ok(())
     }

@@ -1,18 +1,8 @@
-use Rattle.hol_journal.specs.Recorder.{viewed_recorder, viewed_rec}
-use Rattle.hol_journal.proofs.FollowLemmas.{in_view, made_in_view, eq_mp_fits_in_view, eq_mp-follows}
+use Rattle.hol_kernel.specs.Fits.{EqMpFits}
+use Rattle.hol_journal.specs.Recorder.{viewed_rec}
+use Rattle.hol_journal.proofs.FollowLemmas.{pair_in_view}
 use Rattle.hol_journal.proofs.recorder.Recorder.eq_mp_known.Goals as goal
-
-pub record-requires-clause-follows : goal.record-requires-clause-follows
-record-requires-clause-follows c =
-    let shown = viewed_recorder c.self.inside in
-    let first = viewed_rec c.first.inside in
-    let second = viewed_rec c.second.inside in
-    in_view shown c.args.self.now _ _ c.self.view_is
-    (eq_mp-follows shown c.self.invariant first second c.in-Ok.theorem
-    (made_in_view shown c.args.self.now first c.args.first.now c.self.view_is c.first.view_is c.requires.first)
-    (made_in_view shown c.args.self.now second c.args.second.now c.self.view_is c.second.view_is c.requires.second)
-    c.concl-first.ensures.theorem c.concl-second.ensures.theorem c.in-Ok.ensures.outcome c.within_limits.ensures)
 
 pub eq_mp_known-requires-clause-fits : goal.eq_mp_known-requires-clause-fits
 eq_mp_known-requires-clause-fits c =
-    eq_mp_fits_in_view (viewed_rec c.first.inside) (viewed_rec c.second.inside) c.args.first.now c.args.second.now c.first.view_is c.second.view_is c.requires.fits
+    pair_in_view EqMpFits (viewed_rec c.first.inside) (viewed_rec c.second.inside) c.args.first.now c.args.second.now c.first.view_is c.second.view_is c.requires.fits

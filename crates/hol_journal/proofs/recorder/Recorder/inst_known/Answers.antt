@@ -1,15 +1,6 @@
-use Rattle.hol_journal.specs.Recorder.{viewed_recorder, viewed_rec}
-use Rattle.hol_journal.proofs.FollowLemmas.{in_view, pairs_in_view, made_in_view, inst-follows}
+use Rattle.hol_journal.specs.Recorder.{viewed_recorder}
+use Rattle.hol_journal.proofs.FollowLemmas.{pairs_in_view}
 use Rattle.hol_journal.proofs.recorder.Recorder.inst_known.Goals as goal
-
-pub record-requires-clause-follows : goal.record-requires-clause-follows
-record-requires-clause-follows c =
-    let shown = viewed_recorder c.self.inside in
-    let theorem = viewed_rec c.theorem.inside in
-    let made = made_in_view shown c.args.self.now theorem c.args.theorem.now c.self.view_is c.theorem.view_is c.requires.theorem in
-    in_view shown c.args.self.now _ _ c.self.view_is
-    (inst-follows shown c.self.invariant c.args.theta.now _ theorem c.in-Ok.answer c.in_ok-pairs.ensures.ok c.pairs_fit.ensures made c.concl-theorem.ensures.theorem
-    c.in-Ok.ensures.outcome.0 c.in-Ok.ensures.outcome.1 c.within_limits.ensures)
 
 pub inst_known-requires-clause-known : goal.inst_known-requires-clause-known
 inst_known-requires-clause-known c = pairs_in_view (viewed_recorder c.self.inside) c.args.self.now c.args.theta.now c.self.view_is c.requires.known

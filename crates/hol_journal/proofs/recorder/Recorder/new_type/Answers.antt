@@ -1,4 +1,4 @@
-use Rattle.std.proofs.Common.{refl, ap}
+use Rattle.std.proofs.Common.{ap}
 use Rattle.hol_journal.specs.Recorder.{viewed_recorder}
 use Rattle.hol_journal.specs.Steps as steps
 use Rattle.hol_journal.proofs.StoredLemmas.{type-stored}
@@ -8,9 +8,9 @@ use Rattle.hol_journal.proofs.recorder.Recorder.new_type.Goals as goal
 pub invariant_of-self-2 : goal.invariant_of-self-2
 invariant_of-self-2 c =
     type-stored (viewed_recorder c.self.inside) c.new_type.new.self c.reserve.new.self.entries c.push.new.self.entries _
-    c.args.name.now c.self.invariant c.reserve.ensures.same c.push.ensures c.in-Ok.ensures.outcome (ap steps.declared_type c.in_ok-from_str.ensures.ok)
+    c.args.name.now c.self.invariant c.reserve.ensures.same c.push.ensures c.in_ok-new_type.ensures.outcome (ap steps.declared_type c.in_ok-from_str.ensures.ok)
 
 pub returns-clause-grown : goal.returns-clause-grown
 returns-clause-grown c =
     entry-grown (viewed_recorder c.self.inside) c.args.self.now c.new_type.new.self c.reserve.new.self.entries c.push.new.self.entries _
-    c.self.view_is c.reserve.ensures.same c.push.ensures c.in-Ok.ensures.earlier
+    c.self.view_is c.reserve.ensures.same c.push.ensures c.in_ok-new_type.ensures.earlier
