@@ -13,7 +13,7 @@ use hol_check::{EntryParts, LogEntry, TermParts, TermView, TypeParts, TypeView};
 use hol_model_evaluator::{EntryTree, TermTree, TypeTree};
 
 /// What is remarked on an entry.
-#[derive(Clone, Copy, Debug, PartialEq, Eq)]
+#[derive(Clone, Copy, PartialEq, Eq)]
 pub enum Remark {
     /// It defines a logical constant as the prelude does.
     Usual,

@@ -14,14 +14,14 @@ use hol_model::DEFINITIONS_LIMIT;
 use indexmap::IndexMap;
 
 /// A theorem: its hypotheses in the order of terms, each once, and its conclusion, by the numbers of terms.
-#[derive(Debug, Drop)]
+#[derive(Drop)]
 pub struct Theorem {
     pub hypotheses: Vec<usize>,
     pub conclusion: usize,
 }
 
 /// An entry of the theory, by the numbers of names, types and terms.
-#[derive(Clone, Copy, Debug)]
+#[derive(Clone, Copy)]
 pub enum TheoryEntry {
     /// The constant's name, its type, and what it is defined as.
     Definition(usize, usize, usize),
@@ -31,7 +31,7 @@ pub enum TheoryEntry {
 }
 
 /// A claim: the number of its name in the table of names, and that of its theorem among the theorems.
-#[derive(Clone, Copy, Debug)]
+#[derive(Clone, Copy)]
 pub struct ListedClaim {
     pub name: usize,
     pub theorem: usize,
@@ -54,7 +54,7 @@ pub struct Contents {
 }
 
 /// What an accepted line adds to a log.
-#[derive(Debug, Drop)]
+#[derive(Drop)]
 pub enum Addition {
     TypeNumber(usize),
     TermLine(Written),

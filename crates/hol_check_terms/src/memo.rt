@@ -8,7 +8,7 @@ use hol_model::Fault;
 use indexmap::IndexMap;
 
 /// A part of a term under so many binders.
-#[derive(Clone, Copy, Debug, PartialEq, Eq, Hash)]
+#[derive(Clone, Copy, PartialEq, Eq, Hash)]
 pub struct Place {
     pub passed: usize,
     pub number: usize,

@@ -22,7 +22,7 @@ use std::alloc::Global;
 use std::marker::Model;
 
 /// How a term is built of a name, a type or earlier terms.
-#[derive(Clone, Copy, Debug, PartialEq, Eq, Hash)]
+#[derive(Clone, Copy, PartialEq, Eq, Hash)]
 pub enum TermShape {
     Free(usize, usize),
     Constant(usize, usize),
@@ -33,7 +33,7 @@ pub enum TermShape {
 
 /// A term's shape, its height, its number of nodes as a tree, the number of binders that its bound variables need around
 /// it, and whether no variable is free in it.
-#[derive(Clone, Copy, Debug, PartialEq, Eq, Hash)]
+#[derive(Clone, Copy, PartialEq, Eq, Hash)]
 pub struct TermNode {
     pub shape: TermShape,
     pub height: u32,

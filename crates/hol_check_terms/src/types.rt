@@ -15,7 +15,7 @@ use std::alloc::Global;
 use std::marker::Model;
 
 /// How a type is built of a name or of earlier types.
-#[derive(Clone, Copy, Debug, PartialEq, Eq, Hash)]
+#[derive(Clone, Copy, PartialEq, Eq, Hash)]
 pub enum TypeShape {
     Variable(usize),
     Boolean,
@@ -24,7 +24,7 @@ pub enum TypeShape {
 }
 
 /// A type's shape, and the number of its nodes.
-#[derive(Clone, Copy, Debug, PartialEq, Eq, Hash)]
+#[derive(Clone, Copy, PartialEq, Eq, Hash)]
 pub struct TypeNode {
     pub shape: TypeShape,
     pub count: u32,

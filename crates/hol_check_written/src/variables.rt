@@ -3,7 +3,7 @@ ghost use Rattle.std.specs.Prelude.{ℕ, IsTrue};
 ghost use Rattle.hol_check_written.specs.Variables.{IsAmong};
 
 /// Variables whose numbers lie between two numbers. There are none where the least is past the greatest.
-#[derive(Clone, Copy, Debug)]
+#[derive(Clone, Copy)]
 pub struct Variables {
     pub least: usize,
     pub greatest: usize,

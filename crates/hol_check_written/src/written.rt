@@ -18,7 +18,7 @@ use hol_model::{Fault, TERM_HEIGHT_LIMIT, TERM_NODES_LIMIT};
 use std::alloc::Global;
 
 /// How a line builds a term: of a variable or a constant of the tables, or of the terms of earlier lines.
-#[derive(Clone, Copy, Debug)]
+#[derive(Clone, Copy)]
 pub enum WrittenShape {
     Variable(usize),
     Constant(usize),
@@ -29,7 +29,7 @@ pub enum WrittenShape {
 
 /// A term as its line writes it: its type, its height, its number of nodes as a tree, and the variables that may be free
 /// in it.
-#[derive(Clone, Copy, Debug)]
+#[derive(Clone, Copy)]
 pub struct Written {
     pub shape: WrittenShape,
     pub ty: usize,
@@ -140,10 +140,7 @@ pub fn write_abstraction(
         (shape.Abstraction binder line) result terms.old terms.new }
 {
     let domain = variable_type(terms, binder);
-    let ty = match terms.function_type(domain, body.ty) {
-        Ok(ty) => ty,
-        Err(fault) => return Err(fault),
-    };
+    let ty = terms.function_type(domain, body.ty)?;
     if body.height == TERM_HEIGHT_LIMIT {
         return Err(Fault::TooLarge);
     }

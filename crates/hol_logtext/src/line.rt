@@ -1,14 +1,14 @@
 // The lines of a proof log.
 
 /// The version of a log. The second has declared types and constants besides what the first has.
-#[derive(Clone, Copy, Debug, PartialEq, Eq)]
+#[derive(Clone, Copy, PartialEq, Eq)]
 pub enum Version {
     First,
     Second,
 }
 
 /// How a theorem follows: a rule, an axiom or a definition. Terms and theorems are named by numbers.
-#[derive(Debug, Drop)]
+#[derive(Drop)]
 pub enum Rule<'a> {
     Refl(u32),
     Trans(u32, u32),
@@ -31,7 +31,7 @@ pub enum Rule<'a> {
 
 /// A line of a log, a case for each form. Types, terms and theorems are named by the numbers of their lines, each kind
 /// counted by itself from 0.
-#[derive(Debug, Drop)]
+#[derive(Drop)]
 pub enum Line<'a> {
     /// The first line.
     Header(Version),
