@@ -2,7 +2,7 @@
 use std::alloc::{AllocError, AllocFailed};
 
 /// A growth was refused.
-#[derive(Clone, Copy, Debug, Drop)]
+#[derive(Clone, Copy, Drop)]
 pub struct NoMemory;
 
 impl From<AllocError> for NoMemory {

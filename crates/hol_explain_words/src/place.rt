@@ -4,7 +4,7 @@ use crate::piece::{Piece, between};
 use std::alloc::Global;
 
 /// A line and a column, each counted from 1; a column counts bytes.
-#[derive(Clone, Copy, Debug, Drop)]
+#[derive(Clone, Copy, Drop)]
 pub struct Place {
     pub line: usize,
     pub column: usize,

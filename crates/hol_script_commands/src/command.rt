@@ -63,7 +63,7 @@ pub enum Command<'a> {
 }
 
 // A command whose word has a name behind it, without its arguments.
-#[derive(Clone, Copy, Debug, Drop)]
+#[derive(Clone, Copy, Drop)]
 enum NamingKind {
     Thm,
     Show,
@@ -75,7 +75,7 @@ enum NamingKind {
 }
 
 // A command without its arguments.
-#[derive(Clone, Copy, Debug, Drop)]
+#[derive(Clone, Copy, Drop)]
 enum CommandKind {
     Naming(NamingKind),
     OfGoals(GoalKind),
@@ -195,10 +195,7 @@ fn parse_pairs<'a>(
     requires { AreTokens (tokens_of tokens.now) }
     ensures { ParsesPairs result (tokens_of tokens.now) }
 {
-    let (pairs, rest) = match take_pairs(alloc, tokens) {
-        Ok(taken) => taken,
-        Err(error) => return Err(error),
-    };
+    let (pairs, rest) = take_pairs(alloc, tokens)?;
     match only_name(rest) {
         Some(name) => Ok((pairs, name)),
         None => Err(ReadError::Syntax),
@@ -210,10 +207,7 @@ fn parse_inst<'a>(alloc: Global, tokens: &'a [Token<'a>]) -> Result<Rule<'a>, Re
     requires { AreTokens (tokens_of tokens.now) }
     ensures { ParsesArguments result RuleKind.Inst (tokens_of tokens.now) }
 {
-    let (pairs, name) = match parse_pairs(alloc, tokens) {
-        Ok(parsed) => parsed,
-        Err(error) => return Err(error),
-    };
+    let (pairs, name) = parse_pairs(alloc, tokens)?;
     match parse_term_pairs(alloc, &pairs) {
         Ok(pairs) => Ok(Rule::Inst(pairs, name)),
         Err(error) => Err(error),
@@ -225,10 +219,7 @@ fn parse_inst_type<'a>(alloc: Global, tokens: &'a [Token<'a>]) -> Result<Rule<'a
     requires { AreTokens (tokens_of tokens.now) }
     ensures { ParsesArguments result RuleKind.InstType (tokens_of tokens.now) }
 {
-    let (pairs, name) = match parse_pairs(alloc, tokens) {
-        Ok(parsed) => parsed,
-        Err(error) => return Err(error),
-    };
+    let (pairs, name) = parse_pairs(alloc, tokens)?;
     match parse_type_pairs(alloc, &pairs) {
         Ok(pairs) => Ok(Rule::InstType(pairs, name)),
         Err(error) => Err(error),

@@ -14,7 +14,7 @@ use hol_tactic_grammar::tactic_of;
 use std::alloc::Global;
 
 /// A command of the goal stack without its argument.
-#[derive(Clone, Copy, Debug, Drop)]
+#[derive(Clone, Copy, Drop)]
 pub enum GoalKind {
     Goal,
     Expand,

@@ -13,7 +13,7 @@ use hol_model::{NUMBER_LIMIT, Symbol};
 use std::alloc::Global;
 
 // Bytes that a token or white space goes on with.
-#[derive(Clone, Copy, Debug)]
+#[derive(Clone, Copy)]
 enum Class {
     Letter,
     Digit,

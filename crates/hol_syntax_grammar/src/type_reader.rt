@@ -12,7 +12,7 @@ use hol_model::Symbol;
 use std::alloc::{AllocError, AllocFailed, Global};
 
 /// Why a text is not read.
-#[derive(Clone, Copy, Debug, Drop)]
+#[derive(Clone, Copy, Drop)]
 pub enum ReadError {
     Memory,
     Syntax,
@@ -35,14 +35,14 @@ impl<T: Drop> From<AllocFailed<T>> for ReadError {
 }
 
 /// A step towards a type, after the steps for its parts.
-#[derive(Clone, Copy, Debug, Drop)]
+#[derive(Clone, Copy, Drop)]
 pub enum TypeStep<'a> {
     TakeName(&'a [u8]),
     MakeFunction,
 }
 
 // What a token is to a type.
-#[derive(Clone, Copy, Debug, Drop)]
+#[derive(Clone, Copy, Drop)]
 enum Role<'a> {
     Name(&'a [u8]),
     Opens,
@@ -52,7 +52,7 @@ enum Role<'a> {
 }
 
 // What is open: a parenthesis, or an arrow whose right side is being read.
-#[derive(Clone, Copy, Debug, Drop)]
+#[derive(Clone, Copy, Drop)]
 enum Open {
     Parenthesis,
     Arrow,
@@ -199,15 +199,12 @@ pub fn read_type_steps<'a>(
         complete: false,
     };
     for (i, token) in tokens.iter().enumerate() {
-        match reader.turn(type_role(*token)) {
-            Ok(true) => {}
-            Ok(false) => return Ok((reader.steps, i)),
-            Err(error) => return Err(error),
+        if !reader.turn(type_role(*token))? {
+            return Ok((reader.steps, i));
         }
     }
-    match reader.turn(Role::Stops) {
-        Ok(true) => Err(ReadError::Syntax),
-        Ok(false) => Ok((reader.steps, tokens.len())),
-        Err(error) => Err(error),
+    if reader.turn(Role::Stops)? {
+        return Err(ReadError::Syntax);
     }
+    Ok((reader.steps, tokens.len()))
 }

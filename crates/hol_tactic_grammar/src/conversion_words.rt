@@ -5,7 +5,7 @@ ghost use Rattle.hol_tactic_grammar.specs.ConversionWords.{prefix_of_word, singl
 use hol_tactic_exprs::Prefix;
 
 /// A conversion without parts, and without the name that it takes.
-#[derive(Clone, Copy, Debug, Drop)]
+#[derive(Clone, Copy, Drop)]
 pub enum Single {
     All,
     No,

@@ -3,7 +3,7 @@ ghost use Rattle.std.specs.Prelude.{◌≡◌};
 ghost use Rattle.hol_tactic_grammar.specs.TacticWords.{plain_of_word, named_of_word, quoted_of_word, other_of_word, start_of_word};
 
 /// A refiner without arguments.
-#[derive(Clone, Copy, Debug, Drop)]
+#[derive(Clone, Copy, Drop)]
 pub enum Plain {
     All,
     No,
@@ -19,7 +19,7 @@ pub enum Plain {
 }
 
 /// A refiner that takes a name.
-#[derive(Clone, Copy, Debug, Drop)]
+#[derive(Clone, Copy, Drop)]
 pub enum Named {
     Accept,
     Assume,
@@ -30,14 +30,14 @@ pub enum Named {
 }
 
 /// A refiner that takes a quoted term.
-#[derive(Clone, Copy, Debug, Drop)]
+#[derive(Clone, Copy, Drop)]
 pub enum Quoted {
     Exists,
     Undisch,
 }
 
 /// What stands before a refiner, and the refiners with other arguments.
-#[derive(Clone, Copy, Debug, Drop)]
+#[derive(Clone, Copy, Drop)]
 pub enum Other {
     Repeat,
     Try,
@@ -46,7 +46,7 @@ pub enum Other {
 }
 
 /// What a word begins.
-#[derive(Clone, Copy, Debug, Drop)]
+#[derive(Clone, Copy, Drop)]
 pub enum Start {
     OfPlain(Plain),
     OfNamed(Named),
