@@ -76,7 +76,7 @@ pub fn conjunct2(
 
 // CONJ, with the room that it needs.
 #[tactic(auto, using(hol_equal::proofs::StepLemmas::still_made, hol_equal::proofs::StepLemmas::now_made))]
-pub(crate) fn joined(
+pub(crate) fn conj_in_room(
     recorder: &mut Recorder,
     alloc: Global,
     logic: &Bool,
@@ -116,5 +116,5 @@ pub fn conj(
     ensures outcome { AnswersStated (theorem_in result) (terms_of_theorem first.now.theorem ++ terms_of_theorem second.now.theorem) (conj_outcome first.now.theorem second.now.theorem) }
     ensures inferred { Infers recorder.old.theory rule_conj (first.now.theorem ∷ second.now.theorem ∷ []) (theorem_in result) }
 {
-    joined(recorder, alloc, logic, first, second)
+    conj_in_room(recorder, alloc, logic, first, second)
 }

@@ -17,7 +17,7 @@ ghost use Rattle.hol_equal.specs.Sequents.{Shows, DerivesIf, Continues};
 ghost use Rattle.hol_equal.specs.Inferred.{Infers};
 
 use crate::formula_terms::{Sides, connect, for_p_q, for_p_q_r};
-use crate::implication_rules::{discharged, implied};
+use crate::implication_rules::{disch_in_room, mp_in_room};
 use crate::prelude_rules::{by_theorem, pass_formula, sides_of};
 use hol_alpha::aconv;
 use hol_equal::conclusion_of;
@@ -86,7 +86,7 @@ fn other_case(alloc: Global, q: &Term, r: &Term) -> Result<Term, Fault>
 }
 
 // From `p \/ q`, `(p ==> r) ==> (q ==> r) ==> r`, what is behind the first `==>` being handed in.
-fn eliminated(
+fn disj_cases_in_room(
     recorder: &mut Recorder,
     alloc: Global,
     logic: &Bool,
@@ -139,8 +139,8 @@ fn with_case(
         → FitsIf room (nameless_equation bool_type (nameless.implication (nameless.implication (image p.now) r) (image consequent.now))
         (image consequent.now)) → DerivesIf room result (without (image p.now) k ++ h) (image consequent.now) }
 {
-    let implication = discharged(recorder, alloc, logic, p, case)?;
-    implied(recorder, alloc, logic, consequent, whole, &implication)
+    let implication = disch_in_room(recorder, alloc, logic, p, case)?;
+    mp_in_room(recorder, alloc, logic, consequent, whole, &implication)
 }
 
 // DISJ_CASES, with the room that it needs: from `p \/ q`, `r` and `r`, the `r` of the first case.
@@ -169,7 +169,7 @@ fn by_cases(
 {
     let r = conclusion_of(recorder, first);
     let rest = other_case(alloc, sides.right, r)?;
-    let cases = eliminated(recorder, alloc, logic, sides, r, &rest, theorem)?;
+    let cases = disj_cases_in_room(recorder, alloc, logic, sides, r, &rest, theorem)?;
     let other = with_case(recorder, alloc, logic, sides.left, &rest, &cases, first)?;
     with_case(recorder, alloc, logic, sides.right, r, &other, second)
 }

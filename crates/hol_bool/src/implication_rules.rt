@@ -15,7 +15,7 @@ ghost use Rattle.hol_equal.specs.Room.{Room, FitsIf};
 ghost use Rattle.hol_equal.specs.Sequents.{Shows, DerivesIf, Continues};
 ghost use Rattle.hol_equal.specs.Inferred.{Infers};
 
-use crate::conjunction_rules::joined;
+use crate::conjunction_rules::conj_in_room;
 use crate::formula_terms::{connect, equivalence, for_p_q};
 use crate::prelude_rules::{by_theorem, pass_formula, sides_of};
 use hol_alpha::aconv;
@@ -29,7 +29,7 @@ use std::alloc::Global;
 
 /// MP, with the room that it needs: from `p ==> q` and `p`, the `q` that is handed in.
 #[tactic(auto, using(hol_equal::proofs::StepLemmas::still_made, hol_equal::proofs::StepLemmas::now_made))]
-pub fn implied(
+pub fn mp_in_room(
     recorder: &mut Recorder,
     alloc: Global,
     logic: &Bool,
@@ -78,7 +78,7 @@ pub fn mp(
     if !aconv(sides.left, conclusion_of(recorder, second)) {
         return Err(Fault::NotAlpha);
     }
-    implied(recorder, alloc, logic, sides.right, first, second)
+    mp_in_room(recorder, alloc, logic, sides.right, first, second)
 }
 
 // From `p /\ q`, as a hypothesis, `p`.
@@ -105,7 +105,7 @@ fn first_of_both(
 
 // From `q`, `p /\ q <=> p` without the hypothesis `p`.
 #[tactic(auto, using(crate::proofs::PreludeSteps::staying))]
-fn absorbed(
+fn conj_absorption(
     recorder: &mut Recorder,
     alloc: Global,
     logic: &Bool,
@@ -121,7 +121,7 @@ fn absorbed(
         → DerivesIf room result (without (image p.now) h) (nameless_equation bool_type (nameless.conjunction (image p.now) q) (image p.now)) }
 {
     let assumed = steps::assume_known(recorder, alloc, p)?;
-    let joined = joined(recorder, alloc, logic, &assumed, premise)?;
+    let joined = conj_in_room(recorder, alloc, logic, &assumed, premise)?;
     let both = conclusion_of(recorder, &joined);
     let q = conclusion_of(recorder, premise);
     let first = first_of_both(recorder, alloc, logic, p, q, both)?;
@@ -131,7 +131,7 @@ fn absorbed(
 /// DISCH, with the room that it needs: from `q`, `p ==> q` without the hypothesis `p`, for a formula `p` that the theory
 /// knows.
 #[tactic(auto, using(crate::proofs::PreludeSteps::staying))]
-pub fn discharged(
+pub fn disch_in_room(
     recorder: &mut Recorder,
     alloc: Global,
     logic: &Bool,
@@ -150,7 +150,7 @@ pub fn discharged(
     let q = conclusion_of(recorder, premise);
     let stated = connect(alloc, "==>", p, q)?;
     let terms = for_p_q(alloc, p, q)?;
-    let equation = absorbed(recorder, alloc, logic, p, premise)?;
+    let equation = conj_absorption(recorder, alloc, logic, p, premise)?;
     by_theorem(recorder, alloc, logic, DISCH, &terms, &stated, &equation)
 }
 
@@ -172,7 +172,7 @@ pub fn disch(
 {
     let _type = p.ty();
     pass_formula(recorder, p)?;
-    discharged(recorder, alloc, logic, p, premise)
+    disch_in_room(recorder, alloc, logic, p, premise)
 }
 
 /// UNDISCH: from `p ==> q`, `q` with the hypothesis `p`, in eight steps. Refused where the conclusion is no implication.
@@ -193,5 +193,5 @@ pub fn undisch(
         return Err(Fault::BadShape);
     };
     let assumed = steps::assume_known(recorder, alloc, sides.left)?;
-    implied(recorder, alloc, logic, sides.right, premise, &assumed)
+    mp_in_room(recorder, alloc, logic, sides.right, premise, &assumed)
 }

@@ -16,11 +16,11 @@ ghost use Rattle.hol_equal.specs.Sequents.{DerivesIf, Continues};
 ghost use Rattle.hol_equal.specs.Inferred.{Infers};
 ghost use Rattle.hol_quant.specs.Witnesses.{IsAtVariable, existential, redex, witnessed, leave_room};
 
-use crate::generalization::generalized_up_to_names;
+use crate::generalization::gen_in_room;
 use crate::instances::by_formula_lemma;
 use crate::parts::quantified_parts;
 use hol_alpha::aconv;
-use hol_bool::{discharged, implied};
+use hol_bool::{disch_in_room, mp_in_room};
 use hol_equal::{assume, conclusion_of, converted, cut, eq_mp};
 use hol_journal::{Rec, Recorder};
 use hol_model::Fault;
@@ -65,14 +65,8 @@ fn from_redex(
         → applied.now ≡ combination function.now argument.now → DerivesIf (is_roomy (existential at.name at.ty at.body)) result
         (redex at.name at.ty at.body argument.now ∷ []) (witnessed at.name at.ty at.body argument.now) }
 {
-    let equation = match converted(recorder, alloc, function, binder, argument) {
-        Ok(equation) => equation,
-        Err(fault) => return Err(fault),
-    };
-    let assumed = match assume(recorder, alloc, applied) {
-        Ok(assumed) => assumed,
-        Err(fault) => return Err(fault),
-    };
+    let equation = converted(recorder, alloc, function, binder, argument)?;
+    let assumed = assume(recorder, alloc, applied)?;
     eq_mp(recorder, alloc, &equation, &assumed)
 }
 
@@ -97,24 +91,15 @@ fn implied_by_redex(
         ∷ without (witnessed at.name at.ty at.body argument.now) (images premise.now.theorem)))
         (implication (redex at.name at.ty at.body argument.now) (image premise.now.theorem.conclusion)) }
 {
-    let applied = match Term::mk_comb(alloc, function, argument) {
-        Ok(applied) => applied,
-        Err(fault) => return Err(fault),
-    };
-    let witness = match from_redex(recorder, alloc, function, binder, argument, &applied) {
-        Ok(witness) => witness,
-        Err(fault) => return Err(fault),
-    };
-    let consequent = match cut(recorder, alloc, &witness, premise) {
-        Ok(consequent) => consequent,
-        Err(fault) => return Err(fault),
-    };
-    discharged(recorder, alloc, logic, &applied, &consequent)
+    let applied = Term::mk_comb(alloc, function, argument)?;
+    let witness = from_redex(recorder, alloc, function, binder, argument, &applied)?;
+    let consequent = cut(recorder, alloc, &witness, premise)?;
+    disch_in_room(recorder, alloc, logic, &applied, &consequent)
 }
 
 // CHOOSE, of parts that pass its tests.
 #[tactic(auto, using(hol_equal::proofs::StepLemmas::still_made, hol_equal::proofs::StepLemmas::now_made, hol_bool::proofs::PreludeSteps::still_logical, hol_bool::proofs::PreludeSteps::still_formula))]
-fn eliminated(
+fn choose_in_room(
     recorder: &mut Recorder,
     alloc: Global,
     logic: &Bool,
@@ -140,21 +125,10 @@ fn eliminated(
 {
     let formula = conclusion_of(recorder, second);
     let lemma = theorem_of(recorder, logic, numbers::CHOOSE);
-    let sufficient = match implied_by_redex(
-        recorder, alloc, logic, function, binder, argument, second,
-    ) {
-        Ok(sufficient) => sufficient,
-        Err(fault) => return Err(fault),
-    };
-    let always = match generalized_up_to_names(recorder, alloc, logic, argument, &sufficient) {
-        Ok(always) => always,
-        Err(fault) => return Err(fault),
-    };
-    let cases = match by_formula_lemma(recorder, alloc, lemma, function, argument, formula, first) {
-        Ok(cases) => cases,
-        Err(fault) => return Err(fault),
-    };
-    implied(recorder, alloc, logic, formula, &cases, &always)
+    let sufficient = implied_by_redex(recorder, alloc, logic, function, binder, argument, second)?;
+    let always = gen_in_room(recorder, alloc, logic, argument, &sufficient)?;
+    let cases = by_formula_lemma(recorder, alloc, lemma, function, argument, formula, first)?;
+    mp_in_room(recorder, alloc, logic, formula, &cases, &always)
 }
 
 /// CHOOSE: from `?x. p` and `q`, `q` without the hypothesis `p[v/x]`, by the lemma `(?) P |- (!x. P x ==> q) ==> q`,
@@ -187,10 +161,7 @@ pub fn choose(
     if !parts.binder.ty().eq(ty) {
         return Err(Fault::TypeMismatch);
     }
-    let witness = match body_at(alloc, parts.body, parts.binder, variable) {
-        Ok(witness) => witness,
-        Err(fault) => return Err(fault),
-    };
+    let witness = body_at(alloc, parts.body, parts.binder, variable)?;
     let theorem = recorder.thm(second);
     if is_free(formula, name, ty) {
         return Err(Fault::FreeInHypothesis);
@@ -201,7 +172,7 @@ pub fn choose(
     if is_free_in_others(theorem.hyps(), &witness, name, ty) {
         return Err(Fault::FreeInHypothesis);
     }
-    eliminated(
+    choose_in_room(
         recorder,
         alloc,
         logic,

@@ -108,27 +108,15 @@ fn expanded(
 {
     let truth_lemma = theorem_of(recorder, logic, numbers::EQT_INTRO);
     let back_lemma = theorem_of(recorder, logic, numbers::EQT_ELIM);
-    let redex = match Term::mk_comb(alloc, parts.predicate, witness) {
-        Ok(redex) => redex,
-        Err(fault) => return Err(fault),
-    };
-    let conversion = match converted(recorder, alloc, parts.predicate, parts.binder, witness) {
-        Ok(conversion) => conversion,
-        Err(fault) => return Err(fault),
-    };
-    let equal = match equal_to_truth(recorder, alloc, truth_lemma, premise) {
-        Ok(equal) => equal,
-        Err(fault) => return Err(fault),
-    };
-    let redex_equal = match trans(recorder, alloc, &conversion, &equal) {
-        Ok(redex_equal) => redex_equal,
-        Err(fault) => return Err(fault),
-    };
+    let redex = Term::mk_comb(alloc, parts.predicate, witness)?;
+    let conversion = converted(recorder, alloc, parts.predicate, parts.binder, witness)?;
+    let equal = equal_to_truth(recorder, alloc, truth_lemma, premise)?;
+    let redex_equal = trans(recorder, alloc, &conversion, &equal)?;
     from_truth(recorder, alloc, back_lemma, &redex, &redex_equal)
 }
 
 // From `p[w/x]`, `?x. p`.
-fn witnessed(
+fn exists_in_room(
     recorder: &mut Recorder,
     alloc: Global,
     logic: &Bool,
@@ -148,21 +136,8 @@ fn witnessed(
         (witnessed_terms formula.now witness.now (image premise.now.theorem.conclusion))) result (images premise.now.theorem) (image formula.now) }
 {
     let lemma = theorem_of(recorder, logic, numbers::EXISTS);
-    let redex = match expanded(recorder, alloc, logic, parts, witness, premise) {
-        Ok(redex) => redex,
-        Err(fault) => return Err(fault),
-    };
-    let answer = match by_predicate_lemma(
-        recorder,
-        alloc,
-        lemma,
-        parts.predicate,
-        witness,
-        &redex,
-    ) {
-        Ok(answer) => answer,
-        Err(fault) => return Err(fault),
-    };
+    let redex = expanded(recorder, alloc, logic, parts, witness, premise)?;
+    let answer = by_predicate_lemma(recorder, alloc, lemma, parts.predicate, witness, &redex)?;
     named(recorder, alloc, formula, &answer)
 }
 
@@ -195,21 +170,12 @@ pub fn exists(
     if !witness.ty().eq(parts.binder.ty()) {
         return Err(Fault::TypeMismatch);
     }
-    match pass_known(recorder, formula) {
-        Ok(()) => {}
-        Err(fault) => return Err(fault),
-    }
-    match pass_known(recorder, witness) {
-        Ok(()) => {}
-        Err(fault) => return Err(fault),
-    }
+    pass_known(recorder, formula)?;
+    pass_known(recorder, witness)?;
     let conclusion = recorder.thm(premise).concl();
-    let is_instance = match is_body_with(alloc, parts.body, parts.binder, witness, conclusion) {
-        Ok(is_instance) => is_instance,
-        Err(fault) => return Err(fault),
-    };
+    let is_instance = is_body_with(alloc, parts.body, parts.binder, witness, conclusion)?;
     if !is_instance {
         return Err(Fault::NotAlpha);
     }
-    witnessed(recorder, alloc, logic, formula, parts, witness, premise)
+    exists_in_room(recorder, alloc, logic, formula, parts, witness, premise)
 }

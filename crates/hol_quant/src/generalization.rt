@@ -109,7 +109,7 @@ fn over_all(
 }
 
 // GEN, with the room that it needs: from `p`, `!x. p` up to the names of bound variables.
-pub(crate) fn generalized_up_to_names(
+pub(crate) fn gen_in_room(
     recorder: &mut Recorder,
     alloc: Global,
     logic: &Bool,
@@ -140,7 +140,7 @@ pub(crate) fn generalized_up_to_names(
 }
 
 // From `p`, `!x. p`.
-fn generalized(
+fn gen_by_lemmas(
     recorder: &mut Recorder,
     alloc: Global,
     truth_lemma: &Rec,
@@ -167,15 +167,9 @@ fn generalized(
         return Err(Fault::FreeInHypothesis);
     }
     recorder.theory_is_legal();
-    let function = match Term::mk_abs(alloc, binder, theorem.concl()) {
-        Ok(function) => function,
-        Err(fault) => return Err(fault),
-    };
-    let formula = match universal(alloc, &function) {
-        Ok(formula) => formula,
-        Err(fault) => return Err(fault),
-    };
-    let answer = match over_all(
+    let function = Term::mk_abs(alloc, binder, theorem.concl())?;
+    let formula = universal(alloc, &function)?;
+    let answer = over_all(
         recorder,
         alloc,
         truth_lemma,
@@ -183,10 +177,7 @@ fn generalized(
         binder,
         &function,
         premise,
-    ) {
-        Ok(answer) => answer,
-        Err(fault) => return Err(fault),
-    };
+    )?;
     let _answer = conclusion_of(recorder, &answer);
     named_same(recorder, alloc, &formula, &answer)
 }
@@ -210,5 +201,5 @@ pub fn generalize(
 {
     let truth_lemma = theorem_of(recorder, logic, numbers::EQT_INTRO);
     let forall_lemma = theorem_of(recorder, logic, numbers::GEN);
-    generalized(recorder, alloc, truth_lemma, forall_lemma, binder, premise)
+    gen_by_lemmas(recorder, alloc, truth_lemma, forall_lemma, binder, premise)
 }

@@ -21,7 +21,7 @@ use hol_terms::Term;
 use std::alloc::Global;
 
 // From `!x. p`, `p[t/x]`.
-pub(crate) fn specialized(
+pub(crate) fn spec_by_lemma(
     recorder: &mut Recorder,
     alloc: Global,
     lemma: &Rec,
@@ -47,14 +47,8 @@ pub(crate) fn specialized(
         Some(fault) => return Err(fault),
         None => {}
     }
-    let redex = match by_predicate_lemma(recorder, alloc, lemma, parts.predicate, term, premise) {
-        Ok(redex) => redex,
-        Err(fault) => return Err(fault),
-    };
-    let equation = match converted_known(recorder, alloc, parts.predicate, parts.binder, term) {
-        Ok(equation) => equation,
-        Err(fault) => return Err(fault),
-    };
+    let redex = by_predicate_lemma(recorder, alloc, lemma, parts.predicate, term, premise)?;
+    let equation = converted_known(recorder, alloc, parts.predicate, parts.binder, term)?;
     eq_mp_known(recorder, alloc, &equation, &redex)
 }
 
@@ -78,5 +72,5 @@ pub fn spec(
     let _type = term.ty();
     let _conclusion = conclusion_of(recorder, premise);
     let lemma = theorem_of(recorder, logic, numbers::SPEC);
-    specialized(recorder, alloc, lemma, term, premise)
+    spec_by_lemma(recorder, alloc, lemma, term, premise)
 }

@@ -26,13 +26,13 @@ returns-in_err-rest-clause-derives c h i j s room theorem first second left_room
     (c.in_err-rest.ensures room c.requires.right.typed formula.typed
     (other-fits room q (image r) right_room (subst (λ (t : Nameless). LeavesRoomIf room t) (sym r_is) s_room)))
 
-pub eliminated-requires-clause-r : goal.eliminated-requires-clause-r
-eliminated-requires-clause-r c =
+pub disj_cases_in_room-requires-clause-r : goal.disj_cases_in_room-requires-clause-r
+disj_cases_in_room-requires-clause-r c =
     let concluded = c.conclusion_of-r.ensures in
     subst (λ (t : NamedTerm). IsFormula c.args.recorder.now.theory t) (sym concluded.value) concluded.formula
 
-pub eliminated-requires-clause-rest : goal.eliminated-requires-clause-rest
-eliminated-requires-clause-rest c =
+pub disj_cases_in_room-requires-clause-rest : goal.disj_cases_in_room-requires-clause-rest
+disj_cases_in_room-requires-clause-rest c =
     let concluded = c.conclusion_of-r.ensures in
     let formula : IsFormula c.args.recorder.now.theory c.conclusion_of-r.result.now = subst (λ (t : NamedTerm). IsFormula c.args.recorder.now.theory t) (sym concluded.value) concluded.formula in
     other-is c.in_ok-rest.rest c.args.sides.right.now c.conclusion_of-r.result.now c.requires.right.typed formula.typed c.in_ok-rest.ensures
@@ -53,7 +53,7 @@ with_case-requires-clause-consequent c =
     let r = c.conclusion_of-r.result.now in
     let formula : IsFormula c.args.recorder.now.theory r = subst (λ (t : NamedTerm). IsFormula c.args.recorder.now.theory t) (sym concluded.value) concluded.formula in
     let rest_is = other-is c.in_ok-rest.rest c.args.sides.right.now r c.requires.right.typed formula.typed c.in_ok-rest.ensures in
-    still_formula c.args.recorder.now c.eliminated.new.recorder (Ok c.in_ok-cases.cases) c.in_ok-rest.rest c.in_ok-cases.ensures.continues
+    still_formula c.args.recorder.now c.disj_cases_in_room.new.recorder (Ok c.in_ok-cases.cases) c.in_ok-rest.rest c.in_ok-cases.ensures.continues
     (other-formula c.args.recorder.now c.args.logic.now c.requires.logic concluded.legal c.in_ok-rest.rest c.args.sides.right.now r rest_is c.requires.right formula)
 
 pub returns-in_err-other-clause-derives : goal.returns-in_err-other-clause-derives
@@ -81,8 +81,8 @@ with_case-requires-2-clause-consequent c =
     let concluded = c.conclusion_of-r.ensures in
     let r = c.conclusion_of-r.result.now in
     let formula : IsFormula c.args.recorder.now.theory r = subst (λ (t : NamedTerm). IsFormula c.args.recorder.now.theory t) (sym concluded.value) concluded.formula in
-    still_formula c.eliminated.new.recorder c.with_case.new.recorder (Ok c.in_ok-other.other) r c.in_ok-other.ensures.continues
-    (still_formula c.args.recorder.now c.eliminated.new.recorder (Ok c.in_ok-cases.cases) r c.in_ok-cases.ensures.continues formula)
+    still_formula c.disj_cases_in_room.new.recorder c.with_case.new.recorder (Ok c.in_ok-other.other) r c.in_ok-other.ensures.continues
+    (still_formula c.args.recorder.now c.disj_cases_in_room.new.recorder (Ok c.in_ok-cases.cases) r c.in_ok-cases.ensures.continues formula)
 
 pub returns-clause-names : goal.returns-clause-names
 returns-clause-names c =

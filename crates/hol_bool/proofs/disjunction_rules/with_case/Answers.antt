@@ -12,4 +12,4 @@ returns-in_err-implication-clause-derives c h k r room whole case case_fits whol
 pub returns-clause-derives : goal.returns-clause-derives
 returns-clause-derives c h k r room whole case case_fits whole_fits =
     let p = image c.args.p.now in
-    c.implied.ensures.derives h (without p k) (nameless.implication p r) room whole (c.in_ok-implication.ensures.derives k r room case case_fits) whole_fits
+    c.mp_in_room.ensures.derives h (without p k) (nameless.implication p r) room whole (c.in_ok-implication.ensures.derives k r room case case_fits) whole_fits

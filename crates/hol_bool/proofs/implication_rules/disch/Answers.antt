@@ -18,11 +18,11 @@ returns-clause-outcome c =
     let passed = c.in_ok-pass_formula.ensures.ok in
     let wanted = without (image p) (images premise) in
     let outcome : disch_outcome theory p premise ≡ stated wanted (implication p premise.conclusion) = rw (passed.is_formula, passed.is_known) refl in
-    answered c.discharged.result (image p ∷ terms_of_theorem premise) wanted wanted (implication p premise.conclusion)
+    answered c.disch_in_room.result (image p ∷ terms_of_theorem premise) wanted wanted (implication p premise.conclusion)
     (disch_outcome theory p premise) outcome (record { to = λ x m. m; back = λ x m. m })
-    (λ room roomy. c.discharged.ensures.derives (images premise) (image premise.conclusion) room (shows-itself premise)
+    (λ room roomy. c.disch_in_room.ensures.derives (images premise) (image premise.conclusion) room (shows-itself premise)
     (disch-fits room (image p) (image premise.conclusion) (roomy (image p) (inl refl)) (roomy (image premise.conclusion) (inr (inl refl)))))
-    c.discharged.ensures.names
+    c.disch_in_room.ensures.names
 
 pub returns-clause-inferred : goal.returns-clause-inferred
 returns-clause-inferred c = infers_disch c.ty-type.ensures (returns-clause-outcome c)

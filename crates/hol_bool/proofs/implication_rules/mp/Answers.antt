@@ -25,16 +25,16 @@ returns-clause-outcome c =
     let meet : are_alpha_equivalent a second.conclusion ≡ true =
     subst (λ (t : NamedTerm). same_term (image a) (image t) ≡ true) c.conclusion_of.ensures.value (sym c.aconv.ensures.value ∙ c.if-not-aconv.false) in
     let same : image a ≡ image second.conclusion = (same_term-Decides (image a) (image second.conclusion)).0 meet in
-    answered c.implied.result (terms_of_theorem first ++ terms_of_theorem second) (images second ++ images first) wanted b (mp_outcome first second)
+    answered c.mp_in_room.result (terms_of_theorem first ++ terms_of_theorem second) (images second ++ images first) wanted b (mp_outcome first second)
     (ap (λ (o : Option (NamedTerm × NamedTerm)). given o BadShape (λ sides. unless (are_alpha_equivalent sides.0 second.conclusion) NotAlpha (stated wanted sides.1))) (sym c.in-Some.ensures.sides)
     ∙ ap (λ test. unless test NotAlpha (stated wanted b)) meet)
     (swapped-set (images first) (images second))
-    (λ room roomy. c.implied.ensures.derives (images first) (images second) (image a) room
+    (λ room roomy. c.mp_in_room.ensures.derives (images first) (images second) (image a) room
     (subst (λ (t : Nameless). Shows first (images first) t) (ap image parts.is) (shows-itself first))
     (subst (λ (t : Nameless). Shows second (images second) t) (sym same) (shows-itself second))
     (mp-equation-fits room (image a) (image b) (subst (λ (t : Nameless). room ≡ true → IsSized 1000 5000 t) (ap image parts.is) (first-roomy room first second (image b ∷ wanted) roomy))
     (stated-roomy room (terms_of_theorem first ++ terms_of_theorem second) wanted (image b) roomy)))
-    c.implied.ensures.names
+    c.mp_in_room.ensures.names
 
 pub returns-clause-inferred : goal.returns-clause-inferred
 returns-clause-inferred c = infers_mp c.requires.logic c.in-Some.ensures.legal c.in-Some.ensures.formula (returns-clause-outcome c)

@@ -12,6 +12,8 @@ use Rattle.hol_bool.proofs.RuleAnswers.{memory-stated}
 use Rattle.hol_quant.proofs.ChooseLemmas.{others-free}
 use Rattle.hol_quant.proofs.ChooseAnswers.{choose-parts, quantified-type, choose-mismatch, choose-start, body-typed, others, others-are, tested-are, choose-free, choose-fresh, choose-answers}
 use Rattle.hol_quant.proofs.InferredQuantifiers.{infers_choose}
+use Rattle.hol_equal.proofs.StepLemmas.{passed_on}
+use Rattle.hol_bool.proofs.Passing.{unchanged}
 use Rattle.hol_quant.proofs.elimination.choose.Goals as goal
 
 pub returns-then-not-eq-clause-outcome : goal.returns-then-not-eq-clause-outcome
@@ -39,8 +41,9 @@ returns-then-not-eq-clause-outcome c =
 pub returns-then-not-eq-clause-inferred : goal.returns-then-not-eq-clause-inferred
 returns-then-not-eq-clause-inferred c = infers_choose c.requires.logic c.conclusion_of-formula.ensures.legal c.conclusion_of-formula.ensures.formula (returns-then-not-eq-clause-outcome c)
 
-pub returns-in-Err-clause-outcome : goal.returns-in-Err-clause-outcome
-returns-in-Err-clause-outcome c =
+pub returns-in_err-witness-clause-outcome : goal.returns-in_err-witness-clause-outcome
+returns-in_err-witness-clause-outcome c =
+    rw (passed_on c.from_residual.result c.in_err-witness.field-0.0 c.from_residual.ensures.1) (
     let journal = c.args.recorder.now in
     let theory = journal.theory in
     let term = c.args.variable.now in
@@ -61,11 +64,12 @@ returns-in-Err-clause-outcome c =
     let chosen = choose-start theory term first second function binder body name ty dest quantified (type_is ∙ c.eq.ensures.same.0 c.if-not-eq.false) in
     let at = chosen.at in
     let typed = body-typed theory term first second function binder body name ty chosen in
-    memory-stated c.in-Err.fault (image term ∷ terms_of_theorem first ++ terms_of_theorem second) (choose_outcome theory term first second)
-    (c.in-Err.ensures.err at.name at.other at.ty typed at.binder_is at.argument_is)
+    memory-stated c.in_err-witness.field-0.0 (image term ∷ terms_of_theorem first ++ terms_of_theorem second) (choose_outcome theory term first second)
+    (c.in_err-witness.ensures.err at.name at.other at.ty typed at.binder_is at.argument_is))
 
-pub returns-in-Err-clause-inferred : goal.returns-in-Err-clause-inferred
-returns-in-Err-clause-inferred c = infers_choose c.requires.logic c.conclusion_of-formula.ensures.legal c.conclusion_of-formula.ensures.formula (returns-in-Err-clause-outcome c)
+pub returns-in_err-witness-clause-inferred : goal.returns-in_err-witness-clause-inferred
+returns-in_err-witness-clause-inferred c =
+    infers_choose c.requires.logic c.conclusion_of-formula.ensures.legal c.conclusion_of-formula.ensures.formula (returns-in_err-witness-clause-outcome c)
 
 pub returns-then-is_free-clause-outcome : goal.returns-then-is_free-clause-outcome
 returns-then-is_free-clause-outcome c =
@@ -89,8 +93,8 @@ returns-then-is_free-clause-outcome c =
     let chosen = choose-start theory term first second function binder body name ty dest quantified (type_is ∙ c.eq.ensures.same.0 c.if-not-eq.false) in
     let at = chosen.at in
     let typed = body-typed theory term first second function binder body name ty chosen in
-    let witness = c.in-Ok.witness in
-    let witness_is = c.in-Ok.ensures.ok at.name at.other at.ty typed at.binder_is at.argument_is in
+    let witness = c.in_ok-witness.witness in
+    let witness_is = c.in_ok-witness.ensures.ok at.name at.other at.ty typed at.binder_is at.argument_is in
     let first_is = ap (is_free name ty) (sym c.conclusion_of-formula.ensures.value) ∙ sym c.is_free.ensures in
     choose-free theory term first second function binder body name ty chosen
     (tested-are theory term first second function binder body name ty chosen true (is_free name ty second.conclusion)
@@ -121,8 +125,8 @@ returns-then-is_free-2-clause-outcome c =
     let chosen = choose-start theory term first second function binder body name ty dest quantified (type_is ∙ c.eq.ensures.same.0 c.if-not-eq.false) in
     let at = chosen.at in
     let typed = body-typed theory term first second function binder body name ty chosen in
-    let witness = c.in-Ok.witness in
-    let witness_is = c.in-Ok.ensures.ok at.name at.other at.ty typed at.binder_is at.argument_is in
+    let witness = c.in_ok-witness.witness in
+    let witness_is = c.in_ok-witness.ensures.ok at.name at.other at.ty typed at.binder_is at.argument_is in
     let first_is = ap (is_free name ty) (sym c.conclusion_of-formula.ensures.value) ∙ sym c.is_free.ensures in
     let second_is = ap (is_free name ty) (sym (c.concl.ensures.value ∙ ap (λ (t : Theorem). t.conclusion) c.thm-theorem.ensures)) ∙ sym c.is_free-2.ensures in
     choose-free theory term first second function binder body name ty chosen
@@ -155,8 +159,8 @@ returns-then-is_free_in_others-clause-outcome c =
     let chosen = choose-start theory term first second function binder body name ty dest quantified (type_is ∙ c.eq.ensures.same.0 c.if-not-eq.false) in
     let at = chosen.at in
     let typed = body-typed theory term first second function binder body name ty chosen in
-    let witness = c.in-Ok.witness in
-    let witness_is = c.in-Ok.ensures.ok at.name at.other at.ty typed at.binder_is at.argument_is in
+    let witness = c.in_ok-witness.witness in
+    let witness_is = c.in_ok-witness.ensures.ok at.name at.other at.ty typed at.binder_is at.argument_is in
     let first_is = ap (is_free name ty) (sym c.conclusion_of-formula.ensures.value) ∙ sym c.is_free.ensures in
     let second_is = ap (is_free name ty) (sym (c.concl.ensures.value ∙ ap (λ (t : Theorem). t.conclusion) c.thm-theorem.ensures)) ∙ sym c.is_free-2.ensures in
     let hypotheses_are : c.hyps.result.now ≡ second.hypotheses = c.hyps.ensures.value ∙ ap (λ (t : Theorem). t.hypotheses) c.thm-theorem.ensures in
@@ -172,8 +176,8 @@ returns-then-is_free_in_others-clause-inferred c =
     infers_choose c.requires.logic c.conclusion_of-formula.ensures.legal c.conclusion_of-formula.ensures.formula
     (returns-then-is_free_in_others-clause-outcome c)
 
-pub eliminated-requires-clause-at : goal.eliminated-requires-clause-at
-eliminated-requires-clause-at c =
+pub choose_in_room-requires-clause-at : goal.choose_in_room-requires-clause-at
+choose_in_room-requires-clause-at c =
     let journal = c.args.recorder.now in
     let theory = journal.theory in
     let term = c.args.variable.now in
@@ -216,8 +220,8 @@ returns-clause-outcome c =
     let chosen = choose-start theory term first second function binder body name ty dest quantified (type_is ∙ c.eq.ensures.same.0 c.if-not-eq.false) in
     let at = chosen.at in
     let typed = body-typed theory term first second function binder body name ty chosen in
-    let witness = c.in-Ok.witness in
-    let witness_is = c.in-Ok.ensures.ok at.name at.other at.ty typed at.binder_is at.argument_is in
+    let witness = c.in_ok-witness.witness in
+    let witness_is = c.in_ok-witness.ensures.ok at.name at.other at.ty typed at.binder_is at.argument_is in
     let first_is = ap (is_free name ty) (sym c.conclusion_of-formula.ensures.value) ∙ sym c.is_free.ensures in
     let second_is = ap (is_free name ty) (sym (c.concl.ensures.value ∙ ap (λ (t : Theorem). t.conclusion) c.thm-theorem.ensures)) ∙ sym c.is_free-2.ensures in
     let hypotheses_are : c.hyps.result.now ≡ second.hypotheses = c.hyps.ensures.value ∙ ap (λ (t : Theorem). t.hypotheses) c.thm-theorem.ensures in
@@ -226,8 +230,11 @@ returns-clause-outcome c =
     ∙ ap (list_any (λ h. not (same_term (image h) (image witness)) && is_free name ty h)) (sym hypotheses_are) ∙ sym c.is_free_in_others.ensures in
     let fresh = tested-are theory term first second function binder body name ty chosen false false false (first_is ∙ c.if-is_free.false)
     (second_is ∙ c.if-is_free-2.false) (third_is ∙ c.if-is_free_in_others.false) in
-    choose-answers theory term first second function binder body name ty chosen c.eliminated.result fresh
-    (c.eliminated.ensures.derives at chosen.formula_image (choose-fresh theory term first second function binder body name ty chosen fresh)) c.eliminated.ensures.names
+    choose-answers theory term first second function binder body name ty chosen c.choose_in_room.result fresh
+    (c.choose_in_room.ensures.derives at chosen.formula_image (choose-fresh theory term first second function binder body name ty chosen fresh)) c.choose_in_room.ensures.names
 
 pub returns-clause-inferred : goal.returns-clause-inferred
 returns-clause-inferred c = infers_choose c.requires.logic c.conclusion_of-formula.ensures.legal c.conclusion_of-formula.ensures.formula (returns-clause-outcome c)
+
+pub returns-in_err-witness-clause-continues : goal.returns-in_err-witness-clause-continues
+returns-in_err-witness-clause-continues c = unchanged c.args.recorder.now c.from_residual.result c.from_residual.ensures.0

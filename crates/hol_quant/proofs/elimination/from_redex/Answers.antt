@@ -9,24 +9,27 @@ use Rattle.hol_equal.specs.Sequents.{Shows}
 use Rattle.hol_equal.proofs.CutLemmas.{given-derives}
 use Rattle.hol_equal.proofs.Sizes.{past-room}
 use Rattle.hol_quant.proofs.ChooseLemmas.{formula, applied, witness, argument-typed, applied_image, applied-formula, none-unknown, conversion-fits}
+use Rattle.hol_equal.proofs.StepLemmas.{passed_on}
 use Rattle.hol_quant.proofs.elimination.from_redex.Goals as goal
 
-pub returns-in-Err-clause-derives : goal.returns-in-Err-clause-derives
-returns-in-Err-clause-derives c at is =
+pub returns-in_err-equation-clause-derives : goal.returns-in_err-equation-clause-derives
+returns-in_err-equation-clause-derives c at is =
+    rw (passed_on c.from_residual.result c.in_err-equation.field-0.0 c.from_residual.ensures.1) (
     let theory = c.args.recorder.now.theory in
     let function = c.args.function.now in
     let binder = c.args.binder.now in
     let argument = c.args.argument.now in
-    past-room c.in-Err.fault (conversion_fits at.name at.ty bool_type at.body argument) (is_roomy (formula theory function binder argument at))
-    (c.in-Err.ensures.derives at.name at.ty bool_type at.body at.function_is at.binder_is at.body_typed
+    past-room c.in_err-equation.field-0.0 (conversion_fits at.name at.ty bool_type at.body argument) (is_roomy (formula theory function binder argument at))
+    (c.in_err-equation.ensures.derives at.name at.ty bool_type at.body at.function_is at.binder_is at.body_typed
     (argument-typed theory function binder argument at) (none-unknown theory function binder argument at))
-    (conversion-fits theory function binder argument at)
+    (conversion-fits theory function binder argument at))
 
-pub returns-in-Err-assume-clause-derives : goal.returns-in-Err-assume-clause-derives
-returns-in-Err-assume-clause-derives c at is =
+pub returns-in_err-assumed-clause-derives : goal.returns-in_err-assumed-clause-derives
+returns-in_err-assumed-clause-derives c at is =
+    rw (passed_on c.from_residual-in_err-assumed.result c.in_err-assumed.field-0.0 c.from_residual-in_err-assumed.ensures.1) (
     let theory = c.args.recorder.now.theory in
     let known = subst (λ (t : NamedTerm). IsKnown theory (image t) bool_type) (sym is) (applied-formula theory c.args.function.now c.args.binder.now c.args.argument.now at).known in
-    inl (c.in-Err-assume.ensures.gives (subst (λ (th : Theory). IsKnown th (image c.args.applied.now) bool_type) (sym c.in-Ok.ensures.continues.theory) known))
+    inl (c.in_err-assumed.ensures.gives (subst (λ (th : Theory). IsKnown th (image c.args.applied.now) bool_type) (sym c.in_ok-equation.ensures.continues.theory) known)))
 
 pub returns-clause-derives : goal.returns-clause-derives
 returns-clause-derives c at is =
@@ -36,10 +39,10 @@ returns-clause-derives c at is =
     let argument = c.args.argument.now in
     let redex = applied theory function binder argument at in
     let result = witness theory function binder argument at in
-    let equation = c.in-Ok.ensures.derives at.name at.ty bool_type at.body at.function_is at.binder_is at.body_typed
+    let equation = c.in_ok-equation.ensures.derives at.name at.ty bool_type at.body at.function_is at.binder_is at.body_typed
     (argument-typed theory function binder argument at) (none-unknown theory function binder argument at) in
     let known = subst (λ (t : NamedTerm). IsKnown theory (image t) bool_type) (sym is) (applied-formula theory function binder argument at).known in
     let redex_is : image c.args.applied.now ≡ redex = ap image is ∙ applied_image theory function binder argument at in
-    let assumed = subst (λ (t : Nameless). Shows c.in-Ok-assume.assumed.theorem (t ∷ []) t) redex_is
-    (c.in-Ok-assume.ensures.gives (subst (λ (th : Theory). IsKnown th (image c.args.applied.now) bool_type) (sym c.in-Ok.ensures.continues.theory) known)) in
+    let assumed = subst (λ (t : Nameless). Shows c.in_ok-assumed.assumed.theorem (t ∷ []) t) redex_is
+    (c.in_ok-assumed.ensures.gives (subst (λ (th : Theory). IsKnown th (image c.args.applied.now) bool_type) (sym c.in_ok-equation.ensures.continues.theory) known)) in
     given-derives (is_roomy (formula theory function binder argument at)) c.eq_mp.result (redex ∷ []) result (c.eq_mp.ensures.gives [] (redex ∷ []) redex result equation assumed)

@@ -13,10 +13,13 @@ use Rattle.hol_equal.specs.Sequents.{Shows, DerivesIf}
 use Rattle.hol_quant.proofs.GenLemmas.{truth}
 use Rattle.hol_quant.proofs.PreludeParts.{truth-shows, back-shows}
 use Rattle.hol_quant.proofs.ExistsLemmas.{roomy-fits, small, redex, redex_passes, redex_known, redex_image, redex-fits, redex-past, conversion-past, instance-past, truth-past, conversion-at}
+use Rattle.hol_equal.proofs.StepLemmas.{passed_on}
+use Rattle.hol_bool.proofs.Passing.{unchanged}
 use Rattle.hol_quant.proofs.existence.expanded.Goals as goal
 
-pub returns-in-Err-clause-derives : goal.returns-in-Err-clause-derives
-returns-in-Err-clause-derives c formula at =
+pub returns-in_err-redex-clause-derives : goal.returns-in_err-redex-clause-derives
+returns-in_err-redex-clause-derives c formula at =
+    rw (passed_on c.from_residual.result c.in_err-redex.field-0.0 c.from_residual.ensures.1) (
     let theory = c.args.recorder.now.theory in
     let function = c.args.parts.predicate.now in
     let binder = c.args.parts.binder.now in
@@ -24,10 +27,11 @@ returns-in-Err-clause-derives c formula at =
     let witness = c.args.witness.now in
     let premise = c.args.premise.now.theorem in
     let instance = image premise.conclusion in
-    redex-past theory formula function binder body witness instance at c.in-Err.fault c.in-Err.ensures.outcome
+    redex-past theory formula function binder body witness instance at c.in_err-redex.field-0.0 c.in_err-redex.ensures.outcome)
 
-pub returns-in-Err-converted-clause-derives : goal.returns-in-Err-converted-clause-derives
-returns-in-Err-converted-clause-derives c formula at =
+pub returns-in_err-conversion-clause-derives : goal.returns-in_err-conversion-clause-derives
+returns-in_err-conversion-clause-derives c formula at =
+    rw (passed_on c.from_residual-in_err-conversion.result c.in_err-conversion.field-0.0 c.from_residual-in_err-conversion.ensures.1) (
     let theory = c.args.recorder.now.theory in
     let function = c.args.parts.predicate.now in
     let binder = c.args.parts.binder.now in
@@ -35,23 +39,24 @@ returns-in-Err-converted-clause-derives c formula at =
     let witness = c.args.witness.now in
     let premise = c.args.premise.now.theorem in
     let instance = image premise.conclusion in
-    conversion-past theory formula function binder body witness instance at c.in-Err-converted.fault
-    (c.in-Err-converted.ensures.derives at.parts.name at.parts.ty bool_type body at.parts.function_is at.parts.binder_is at.parts.body_typed
-    at.witness_typed (redex_passes theory formula function binder body witness instance at))
+    conversion-past theory formula function binder body witness instance at c.in_err-conversion.field-0.0
+    (c.in_err-conversion.ensures.derives at.parts.name at.parts.ty bool_type body at.parts.function_is at.parts.binder_is at.parts.body_typed
+    at.witness_typed (redex_passes theory formula function binder body witness instance at)))
 
 pub equal_to_truth-requires-clause-lemma : goal.equal_to_truth-requires-clause-lemma
 equal_to_truth-requires-clause-lemma c =
-    journals-grow.stays c.args.recorder.now c.converted.new.recorder c.theorem_of-truth_lemma.result.now c.in-Ok-converted.ensures.continues.grown c.theorem_of-truth_lemma.ensures.made
+    journals-grow.stays c.args.recorder.now c.converted.new.recorder c.theorem_of-truth_lemma.result.now c.in_ok-conversion.ensures.continues.grown c.theorem_of-truth_lemma.ensures.made
 
 pub equal_to_truth-requires-clause-shows : goal.equal_to_truth-requires-clause-shows
 equal_to_truth-requires-clause-shows c = truth-shows c.theorem_of-truth_lemma.result.now.theorem c.theorem_of-truth_lemma.ensures.theorem
 
 pub equal_to_truth-requires-clause-premise : goal.equal_to_truth-requires-clause-premise
 equal_to_truth-requires-clause-premise c =
-    journals-grow.stays c.args.recorder.now c.converted.new.recorder c.args.premise.now c.in-Ok-converted.ensures.continues.grown c.requires.premise
+    journals-grow.stays c.args.recorder.now c.converted.new.recorder c.args.premise.now c.in_ok-conversion.ensures.continues.grown c.requires.premise
 
-pub returns-in-Err-equal_to_truth-clause-derives : goal.returns-in-Err-equal_to_truth-clause-derives
-returns-in-Err-equal_to_truth-clause-derives c formula at =
+pub returns-in_err-equal-clause-derives : goal.returns-in_err-equal-clause-derives
+returns-in_err-equal-clause-derives c formula at =
+    rw (passed_on c.from_residual-in_err-equal.result c.in_err-equal.field-0.0 c.from_residual-in_err-equal.ensures.1) (
     let theory = c.args.recorder.now.theory in
     let function = c.args.parts.predicate.now in
     let binder = c.args.parts.binder.now in
@@ -59,14 +64,15 @@ returns-in-Err-equal_to_truth-clause-derives c formula at =
     let witness = c.args.witness.now in
     let premise = c.args.premise.now.theorem in
     let instance = image premise.conclusion in
-    instance-past theory formula function binder body witness instance at c.in-Err-equal_to_truth.fault (c.in-Err-equal_to_truth.ensures.derives (is_roomy instance) (roomy-fits instance))
+    instance-past theory formula function binder body witness instance at c.in_err-equal.field-0.0 (c.in_err-equal.ensures.derives (is_roomy instance) (roomy-fits instance)))
 
 pub trans-requires-clause-first : goal.trans-requires-clause-first
 trans-requires-clause-first c =
-    journals-grow.stays c.converted.new.recorder c.equal_to_truth.new.recorder c.in-Ok-converted.conversion c.in-Ok-equal_to_truth.ensures.continues.grown c.in-Ok-converted.ensures.continues.held.made
+    journals-grow.stays c.converted.new.recorder c.equal_to_truth.new.recorder c.in_ok-conversion.conversion c.in_ok-equal.ensures.continues.grown c.in_ok-conversion.ensures.continues.held.made
 
-pub returns-in-Err-trans-clause-derives : goal.returns-in-Err-trans-clause-derives
-returns-in-Err-trans-clause-derives c formula at =
+pub returns-in_err-redex_equal-clause-derives : goal.returns-in_err-redex_equal-clause-derives
+returns-in_err-redex_equal-clause-derives c formula at =
+    rw (passed_on c.from_residual-in_err-redex_equal.result c.in_err-redex_equal.field-0.0 c.from_residual-in_err-redex_equal.ensures.1) (
     let theory = c.args.recorder.now.theory in
     let function = c.args.parts.predicate.now in
     let binder = c.args.parts.binder.now in
@@ -74,20 +80,20 @@ returns-in-Err-trans-clause-derives c formula at =
     let witness = c.args.witness.now in
     let premise = c.args.premise.now.theorem in
     let instance = image premise.conclusion in
-    let conversion = c.in-Ok-converted.ensures.derives at.parts.name at.parts.ty bool_type body at.parts.function_is at.parts.binder_is
+    let conversion = c.in_ok-conversion.ensures.derives at.parts.name at.parts.ty bool_type body at.parts.function_is at.parts.binder_is
     at.parts.body_typed at.witness_typed (redex_passes theory formula function binder body witness instance at) in
-    let conversion_shown = conversion-at theory formula function binder body witness instance at c.in-Ok-converted.conversion.theorem conversion in
-    truth-past theory formula function binder body witness instance at c.in-Err-trans.fault
-    (c.in-Err-trans.ensures.derives [] (images premise) bool_type
+    let conversion_shown = conversion-at theory formula function binder body witness instance at c.in_ok-conversion.conversion.theorem conversion in
+    truth-past theory formula function binder body witness instance at c.in_err-redex_equal.field-0.0
+    (c.in_err-redex_equal.ensures.derives [] (images premise) bool_type
     (redex theory formula function binder body witness instance at) instance truth conversion_shown
-    (c.in-Ok-equal_to_truth.ensures.derives (is_roomy instance) (roomy-fits instance)))
+    (c.in_ok-equal.ensures.derives (is_roomy instance) (roomy-fits instance))))
 
 pub from_truth-requires-clause-lemma : goal.from_truth-requires-clause-lemma
 from_truth-requires-clause-lemma c =
     let lemma = c.theorem_of-back_lemma.result.now in
-    let one = journals-grow.stays c.args.recorder.now c.converted.new.recorder lemma c.in-Ok-converted.ensures.continues.grown c.theorem_of-back_lemma.ensures.made in
-    let two = journals-grow.stays c.converted.new.recorder c.equal_to_truth.new.recorder lemma c.in-Ok-equal_to_truth.ensures.continues.grown one in
-    journals-grow.stays c.equal_to_truth.new.recorder c.trans.new.recorder lemma c.in-Ok-trans.ensures.continues.grown two
+    let one = journals-grow.stays c.args.recorder.now c.converted.new.recorder lemma c.in_ok-conversion.ensures.continues.grown c.theorem_of-back_lemma.ensures.made in
+    let two = journals-grow.stays c.converted.new.recorder c.equal_to_truth.new.recorder lemma c.in_ok-equal.ensures.continues.grown one in
+    journals-grow.stays c.equal_to_truth.new.recorder c.trans.new.recorder lemma c.in_ok-redex_equal.ensures.continues.grown two
 
 pub from_truth-requires-clause-shows : goal.from_truth-requires-clause-shows
 from_truth-requires-clause-shows c = back-shows c.theorem_of-back_lemma.result.now.theorem c.theorem_of-back_lemma.ensures.theorem
@@ -101,20 +107,23 @@ returns-clause-derives c formula at =
     let witness = c.args.witness.now in
     let premise = c.args.premise.now.theorem in
     let instance = image premise.conclusion in
-    let conversion = c.in-Ok-converted.ensures.derives at.parts.name at.parts.ty bool_type body at.parts.function_is at.parts.binder_is
+    let conversion = c.in_ok-conversion.ensures.derives at.parts.name at.parts.ty bool_type body at.parts.function_is at.parts.binder_is
     at.parts.body_typed at.witness_typed (redex_passes theory formula function binder body witness instance at) in
-    let conversion_shown = conversion-at theory formula function binder body witness instance at c.in-Ok-converted.conversion.theorem conversion in
-    let later : c.trans.new.recorder.theory ≡ theory = c.in-Ok-trans.ensures.continues.theory ∙ c.in-Ok-equal_to_truth.ensures.continues.theory ∙ c.in-Ok-converted.ensures.continues.theory in
-    let made_is : c.in-Ok.redex ≡ combination function witness = (applied function witness c.in-Ok.redex c.in-Ok.ensures.outcome).is in
+    let conversion_shown = conversion-at theory formula function binder body witness instance at c.in_ok-conversion.conversion.theorem conversion in
+    let later : c.trans.new.recorder.theory ≡ theory = c.in_ok-redex_equal.ensures.continues.theory ∙ c.in_ok-equal.ensures.continues.theory ∙ c.in_ok-conversion.ensures.continues.theory in
+    let made_is : c.in_ok-redex.redex ≡ combination function witness = (applied function witness c.in_ok-redex.redex c.in_ok-redex.ensures.outcome).is in
     let fits = list_all is_roomy (small theory formula function binder body witness instance at) in
-    let redex_is : image c.in-Ok.redex ≡ redex theory formula function binder body witness instance at = ap image made_is ∙ redex_image theory formula function binder body witness instance at in
-    let equal = c.in-Ok-trans.ensures.derives [] (images premise) bool_type
+    let redex_is : image c.in_ok-redex.redex ≡ redex theory formula function binder body witness instance at = ap image made_is ∙ redex_image theory formula function binder body witness instance at in
+    let equal = c.in_ok-redex_equal.ensures.derives [] (images premise) bool_type
     (redex theory formula function binder body witness instance at) instance truth conversion_shown
-    (c.in-Ok-equal_to_truth.ensures.derives (is_roomy instance) (roomy-fits instance)) in
-    let shown = subst (λ (t : Nameless). Shows c.in-Ok-trans.redex_equal.theorem (images premise) (nameless_equation bool_type t truth)) (sym redex_is) equal in
-    let known = subst (λ (th : Theory). IsKnown th (image c.in-Ok.redex) bool_type) (sym later)
+    (c.in_ok-equal.ensures.derives (is_roomy instance) (roomy-fits instance)) in
+    let shown = subst (λ (t : Nameless). Shows c.in_ok-redex_equal.redex_equal.theorem (images premise) (nameless_equation bool_type t truth)) (sym redex_is) equal in
+    let known = subst (λ (th : Theory). IsKnown th (image c.in_ok-redex.redex) bool_type) (sym later)
     (subst (λ (t : NamedTerm). IsKnown theory (image t) bool_type) (sym made_is)
     (redex_known theory formula function binder body witness instance at)) in
     subst (λ (t : NamedTerm). DerivesIf fits c.from_truth.result (images premise) (image t)) made_is
     (c.from_truth.ensures.derives fits (images premise) known
     (subst (λ (t : NamedTerm). FitsIf fits (image t)) (sym made_is) (redex-fits theory formula function binder body witness instance at)) shown)
+
+pub returns-in_err-redex-clause-continues : goal.returns-in_err-redex-clause-continues
+returns-in_err-redex-clause-continues c = unchanged c.args.recorder.now c.from_residual.result c.from_residual.ensures.0

@@ -18,7 +18,8 @@ use Rattle.hol_equal.proofs.Sizes.{past-room}
 use Rattle.hol_equal.proofs.CutLemmas.{shows-itself, given-derives}
 use Rattle.hol_quant.specs.PredicateLemmas.{applied, over_predicate, lemma_fits}
 use Rattle.hol_quant.proofs.SpecLemmas.{spec-start, small, specialized_body, spec-answers, spec-unknown, function_image, premise-at, redex-at, spec-lemma-within, spec-conversion-within}
-use Rattle.hol_quant.proofs.specialization.specialized.Goals as goal
+use Rattle.hol_equal.proofs.StepLemmas.{passed_on}
+use Rattle.hol_quant.proofs.specialization.spec_by_lemma.Goals as goal
 
 pub returns-in-Some-first_unknown-clause-outcome : goal.returns-in-Some-first_unknown-clause-outcome
 returns-in-Some-first_unknown-clause-outcome c =
@@ -36,8 +37,9 @@ returns-in-Some-first_unknown-clause-outcome c =
     let at = start.at in
     spec-unknown theory term premise function binder body at start.typed c.in-Some-first_unknown.fault (sym (rw c.theory.ensures at c.in-Some-first_unknown.ensures))
 
-pub returns-in-Err-clause-outcome : goal.returns-in-Err-clause-outcome
-returns-in-Err-clause-outcome c =
+pub returns-in_err-redex-clause-outcome : goal.returns-in_err-redex-clause-outcome
+returns-in_err-redex-clause-outcome c =
+    rw (passed_on c.from_residual.result c.in_err-redex.field-0.0 c.from_residual.ensures.1) (
     let journal = c.args.recorder.now in
     let theory = journal.theory in
     let term = c.args.term.now in
@@ -55,11 +57,11 @@ returns-in-Err-clause-outcome c =
     let term_known = known_term theory term at.ty none start.typed in
     let function_known = subst (λ (t : Nameless). IsKnown theory t (predicate at.ty)) (sym (function_image theory term premise function binder body at start.typed)) at.function_known in
     let premise_shows = subst (λ (t : Nameless). Shows premise (images premise) t) (sym (premise-at theory term premise function binder body at start.typed)) (shows-itself premise) in
-    let fault = c.in-Err.fault in
+    let fault = c.in_err-redex.field-0.0 in
     spec-answers theory term premise function binder body at start.typed (Err fault) none
     (past-room fault (lemma_fits at.ty function term (over_predicate forall_name) applied) fits
-    (c.in-Err.ensures.derives at.ty function_known term_known (images premise) (over_predicate forall_name) applied c.requires.shows premise_shows)
-    (spec-lemma-within theory term premise function binder body at start.typed))
+    (c.in_err-redex.ensures.derives at.ty function_known term_known (images premise) (over_predicate forall_name) applied c.requires.shows premise_shows)
+    (spec-lemma-within theory term premise function binder body at start.typed)))
 
 pub by_predicate_lemma-requires-clause-known : goal.by_predicate_lemma-requires-clause-known
 by_predicate_lemma-requires-clause-known c =
@@ -98,7 +100,7 @@ converted_known-requires c =
     let at = start.at in
     let none = sym (rw c.theory.ensures at c.in-None.ensures) in
     let term_known = known_term theory term at.ty none start.typed in
-    let later : c.by_predicate_lemma.new.recorder.theory ≡ theory = c.in-Ok.ensures.continues.theory in
+    let later : c.by_predicate_lemma.new.recorder.theory ≡ theory = c.in_ok-redex.ensures.continues.theory in
     let redex_none = subst (λ (th : Theory). first_unknown th (combination (abstraction at.name at.ty body) term) ≡ None) (sym later)
     (no_unknown theory (combination (abstraction at.name at.ty body) term) bool_type
     (subst (λ (t : Nameless). IsKnown theory (app t (image term)) bool_type) (sym (image-abstraction at.name at.ty body))
@@ -115,8 +117,9 @@ converted_known-requires c =
       known = redex_none;
     }
 
-pub returns-in-Err-converted_known-clause-outcome : goal.returns-in-Err-converted_known-clause-outcome
-returns-in-Err-converted_known-clause-outcome c =
+pub returns-in_err-equation-clause-outcome : goal.returns-in_err-equation-clause-outcome
+returns-in_err-equation-clause-outcome c =
+    rw (passed_on c.from_residual-in_err-equation.result c.in_err-equation.field-0.0 c.from_residual-in_err-equation.ensures.1) (
     let journal = c.args.recorder.now in
     let theory = journal.theory in
     let term = c.args.term.now in
@@ -134,22 +137,22 @@ returns-in-Err-converted_known-clause-outcome c =
     let term_known = known_term theory term at.ty none start.typed in
     let function_known = subst (λ (t : Nameless). IsKnown theory t (predicate at.ty)) (sym (function_image theory term premise function binder body at start.typed)) at.function_known in
     let premise_shows = subst (λ (t : Nameless). Shows premise (images premise) t) (sym (premise-at theory term premise function binder body at start.typed)) (shows-itself premise) in
-    let redex = subst (λ (t : Nameless). Shows c.in-Ok.redex.theorem (images premise) t) (redex-at theory term premise function binder body at start.typed)
-    (c.in-Ok.ensures.derives at.ty function_known term_known (images premise) (over_predicate forall_name) applied c.requires.shows premise_shows) in
-    let later : c.by_predicate_lemma.new.recorder.theory ≡ theory = c.in-Ok.ensures.continues.theory in
+    let redex = subst (λ (t : Nameless). Shows c.in_ok-redex.redex.theorem (images premise) t) (redex-at theory term premise function binder body at start.typed)
+    (c.in_ok-redex.ensures.derives at.ty function_known term_known (images premise) (over_predicate forall_name) applied c.requires.shows premise_shows) in
+    let later : c.by_predicate_lemma.new.recorder.theory ≡ theory = c.in_ok-redex.ensures.continues.theory in
     let redex_none = subst (λ (th : Theory). first_unknown th (combination (abstraction at.name at.ty body) term) ≡ None) (sym later)
     (no_unknown theory (combination (abstraction at.name at.ty body) term) bool_type
     (subst (λ (t : Nameless). IsKnown theory (app t (image term)) bool_type) (sym (image-abstraction at.name at.ty body))
     (app-known theory at.ty bool_type (closed at.name at.ty body) (image term) at.function_known term_known))) in
-    let fault = c.in-Err-converted_known.fault in
+    let fault = c.in_err-equation.field-0.0 in
     spec-answers theory term premise function binder body at start.typed (Err fault) none
     (past-room fault (conversion_fits at.name at.ty bool_type body term) fits
-    (c.in-Err-converted_known.ensures.derives at.name at.ty bool_type body at.function_is at.binder_is at.body_typed start.typed redex_none)
-    (spec-conversion-within theory term premise function binder body at start.typed))
+    (c.in_err-equation.ensures.derives at.name at.ty bool_type body at.function_is at.binder_is at.body_typed start.typed redex_none)
+    (spec-conversion-within theory term premise function binder body at start.typed)))
 
 pub eq_mp_known-requires-clause-second : goal.eq_mp_known-requires-clause-second
 eq_mp_known-requires-clause-second c =
-    journals-grow.stays c.by_predicate_lemma.new.recorder c.converted_known.new.recorder c.in-Ok.redex c.in-Ok-converted_known.ensures.continues.grown c.in-Ok.ensures.continues.held.made
+    journals-grow.stays c.by_predicate_lemma.new.recorder c.converted_known.new.recorder c.in_ok-redex.redex c.in_ok-equation.ensures.continues.grown c.in_ok-redex.ensures.continues.held.made
 
 pub eq_mp_known-requires-clause-fits : goal.eq_mp_known-requires-clause-fits
 eq_mp_known-requires-clause-fits c =
@@ -170,16 +173,16 @@ eq_mp_known-requires-clause-fits c =
     let term_known = known_term theory term at.ty none start.typed in
     let function_known = subst (λ (t : Nameless). IsKnown theory t (predicate at.ty)) (sym (function_image theory term premise function binder body at start.typed)) at.function_known in
     let premise_shows = subst (λ (t : Nameless). Shows premise (images premise) t) (sym (premise-at theory term premise function binder body at start.typed)) (shows-itself premise) in
-    let redex = subst (λ (t : Nameless). Shows c.in-Ok.redex.theorem (images premise) t) (redex-at theory term premise function binder body at start.typed)
-    (c.in-Ok.ensures.derives at.ty function_known term_known (images premise) (over_predicate forall_name) applied c.requires.shows premise_shows) in
-    let later : c.by_predicate_lemma.new.recorder.theory ≡ theory = c.in-Ok.ensures.continues.theory in
+    let redex = subst (λ (t : Nameless). Shows c.in_ok-redex.redex.theorem (images premise) t) (redex-at theory term premise function binder body at start.typed)
+    (c.in_ok-redex.ensures.derives at.ty function_known term_known (images premise) (over_predicate forall_name) applied c.requires.shows premise_shows) in
+    let later : c.by_predicate_lemma.new.recorder.theory ≡ theory = c.in_ok-redex.ensures.continues.theory in
     let redex_none = subst (λ (th : Theory). first_unknown th (combination (abstraction at.name at.ty body) term) ≡ None) (sym later)
     (no_unknown theory (combination (abstraction at.name at.ty body) term) bool_type
     (subst (λ (t : Nameless). IsKnown theory (app t (image term)) bool_type) (sym (image-abstraction at.name at.ty body)) (app-known theory at.ty bool_type
     (closed at.name at.ty body) (image term) at.function_known term_known))) in
     let result = specialized_body theory term premise function binder body at start.typed in
-    let equation = c.in-Ok-converted_known.ensures.derives at.name at.ty bool_type body at.function_is at.binder_is at.body_typed start.typed redex_none in
-    eq_mp-fits c.in-Ok-converted_known.equation.theorem c.in-Ok.redex.theorem [] (images premise) (app (closed at.name at.ty body) (image term)) result equation redex
+    let equation = c.in_ok-equation.ensures.derives at.name at.ty bool_type body at.function_is at.binder_is at.body_typed start.typed redex_none in
+    eq_mp-fits c.in_ok-equation.equation.theorem c.in_ok-redex.redex.theorem [] (images premise) (app (closed at.name at.ty body) (image term)) result equation redex
 
 pub returns-clause-outcome : goal.returns-clause-outcome
 returns-clause-outcome c =
@@ -200,14 +203,14 @@ returns-clause-outcome c =
     let term_known = known_term theory term at.ty none start.typed in
     let function_known = subst (λ (t : Nameless). IsKnown theory t (predicate at.ty)) (sym (function_image theory term premise function binder body at start.typed)) at.function_known in
     let premise_shows = subst (λ (t : Nameless). Shows premise (images premise) t) (sym (premise-at theory term premise function binder body at start.typed)) (shows-itself premise) in
-    let redex = subst (λ (t : Nameless). Shows c.in-Ok.redex.theorem (images premise) t) (redex-at theory term premise function binder body at start.typed)
-    (c.in-Ok.ensures.derives at.ty function_known term_known (images premise) (over_predicate forall_name) applied c.requires.shows premise_shows) in
-    let later : c.by_predicate_lemma.new.recorder.theory ≡ theory = c.in-Ok.ensures.continues.theory in
+    let redex = subst (λ (t : Nameless). Shows c.in_ok-redex.redex.theorem (images premise) t) (redex-at theory term premise function binder body at start.typed)
+    (c.in_ok-redex.ensures.derives at.ty function_known term_known (images premise) (over_predicate forall_name) applied c.requires.shows premise_shows) in
+    let later : c.by_predicate_lemma.new.recorder.theory ≡ theory = c.in_ok-redex.ensures.continues.theory in
     let redex_none = subst (λ (th : Theory). first_unknown th (combination (abstraction at.name at.ty body) term) ≡ None) (sym later)
     (no_unknown theory (combination (abstraction at.name at.ty body) term) bool_type
     (subst (λ (t : Nameless). IsKnown theory (app t (image term)) bool_type) (sym (image-abstraction at.name at.ty body))
     (app-known theory at.ty bool_type (closed at.name at.ty body) (image term) at.function_known term_known))) in
     let result = specialized_body theory term premise function binder body at start.typed in
-    let equation = c.in-Ok-converted_known.ensures.derives at.name at.ty bool_type body at.function_is at.binder_is at.body_typed start.typed redex_none in
+    let equation = c.in_ok-equation.ensures.derives at.name at.ty bool_type body at.function_is at.binder_is at.body_typed start.typed redex_none in
     spec-answers theory term premise function binder body at start.typed c.eq_mp_known.result none
     (given-derives fits c.eq_mp_known.result (images premise) result (c.eq_mp_known.ensures.gives [] (images premise) (app (closed at.name at.ty body) (image term)) result equation redex))

@@ -15,7 +15,7 @@ use Rattle.hol_bool.proofs.ConjunctionAnswers.{mp_equation, mp-leads}
 use Rattle.hol_bool.proofs.PreludeSteps.{p_q-known}
 use Rattle.hol_bool.proofs.FormulaLemmas.{equation-formula, made-formula}
 use Rattle.hol_bool.proofs.Passing.{unchanged}
-use Rattle.hol_bool.proofs.implication_rules.implied.Goals as goal
+use Rattle.hol_bool.proofs.implication_rules.mp_in_room.Goals as goal
 
 pub returns-in_err-stated-clause-derives : goal.returns-in_err-stated-clause-derives
 returns-in_err-stated-clause-derives c h k s room first second fits =

@@ -11,7 +11,7 @@ use Rattle.hol_equal.proofs.CutLemmas.{derives-where}
 use Rattle.hol_equal.proofs.LemmaLemmas.{derives-same}
 use Rattle.hol_bool.proofs.RoomLemmas.{fits-within}
 use Rattle.hol_bool.proofs.ImplicationAnswers.{disch-both-fits, disch-conj-fits, disch-absorbed-fits, absorbed-set}
-use Rattle.hol_bool.proofs.implication_rules.absorbed.Goals as goal
+use Rattle.hol_bool.proofs.implication_rules.conj_absorption.Goals as goal
 
 pub returns-in_err-joined-clause-derives : goal.returns-in_err-joined-clause-derives
 returns-in_err-joined-clause-derives c h q room shown fits =
@@ -21,7 +21,7 @@ returns-in_err-joined-clause-derives c h q room shown fits =
 
 pub conclusion_of-q-requires : goal.conclusion_of-q-requires
 conclusion_of-q-requires c =
-    still_made c.assume_known.new.recorder c.joined.new.recorder (Ok c.in_ok-joined.joined) c.args.premise.now c.in_ok-joined.ensures.continues
+    still_made c.assume_known.new.recorder c.conj_in_room.new.recorder (Ok c.in_ok-joined.joined) c.args.premise.now c.in_ok-joined.ensures.continues
     (still_made c.args.recorder.now c.assume_known.new.recorder (Ok c.in_ok-assumed.assumed) c.args.premise.now c.in_ok-assumed.ensures.continues c.requires.premise)
 
 pub returns-in_err-first-clause-derives : goal.returns-in_err-first-clause-derives

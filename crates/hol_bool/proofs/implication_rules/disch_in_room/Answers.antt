@@ -16,7 +16,7 @@ use Rattle.hol_bool.proofs.PreludeSteps.{p_q-known, still_known}
 use Rattle.hol_bool.proofs.FormulaLemmas.{connects, made-formula, formula_in}
 use Rattle.hol_bool.proofs.Passing.{unchanged}
 use Rattle.hol_equal.proofs.StepLemmas.{passed_on}
-use Rattle.hol_bool.proofs.implication_rules.discharged.Goals as goal
+use Rattle.hol_bool.proofs.implication_rules.disch_in_room.Goals as goal
 
 pub returns-in_err-stated-clause-derives : goal.returns-in_err-stated-clause-derives
 returns-in_err-stated-clause-derives c h q room shown fits =
@@ -52,7 +52,7 @@ returns-clause-derives c h q room shown fits =
     Shows c.in_ok-equation.equation.theorem left (nameless_equation bool_type (nameless.conjunction (image a) t) (image a)))
     (sym shown.concludes) (c.in_ok-equation.ensures.derives h q room shown fits) in
     let answer : DerivesIf room c.by_theorem.result left (nameless.implication (image a) (image b)) =
-    subst (λ (t : NamedTerm). LeadsTo c.absorbed.new.recorder.theory 16 terms room from (image t) → DerivesIf room c.by_theorem.result left (image t)) stated_is
+    subst (λ (t : NamedTerm). LeadsTo c.conj_absorption.new.recorder.theory 16 terms room from (image t) → DerivesIf room c.by_theorem.result left (image t)) stated_is
     (λ l. c.by_theorem.ensures.derives left from room l equation) leads in
     subst (λ (t : Nameless). DerivesIf room c.by_theorem.result left (nameless.implication (image a) t)) shown.concludes answer
 
@@ -63,7 +63,7 @@ by_theorem-requires-clause-known c =
     let concluded = c.conclusion_of-q.ensures in
     let theory = c.args.recorder.now.theory in
     let terms_are : c.deref.result.now ≡ at_p_q a b = c.deref.ensures.value ∙ c.in_ok-terms.ensures.ok ∙ ap (at_p_q a) concluded.value in
-    still_known c.absorbed.new.recorder.theory theory c.deref.result.now c.in_ok-equation.ensures.continues.theory
+    still_known c.conj_absorption.new.recorder.theory theory c.deref.result.now c.in_ok-equation.ensures.continues.theory
     (p_q-known theory a b c.deref.result.now terms_are c.requires.formula concluded.formula)
 
 pub by_theorem-requires-clause-stated : goal.by_theorem-requires-clause-stated
@@ -73,7 +73,7 @@ by_theorem-requires-clause-stated c =
     let b = c.args.premise.now.theorem.conclusion in
     let concluded = c.conclusion_of-q.ensures in
     let stated_is = connected-is c.in_ok-stated.stated implies_name a b a c.conclusion_of-q.result.now c.requires.formula.typed concluded.formula.typed refl concluded.value c.in_ok-stated.ensures in
-    formula_in c.absorbed.new.recorder.theory journal.theory c.in_ok-stated.stated c.in_ok-equation.ensures.continues.theory
+    formula_in c.conj_absorption.new.recorder.theory journal.theory c.in_ok-stated.stated c.in_ok-equation.ensures.continues.theory
     (made-formula journal.theory c.in_ok-stated.stated (implication a b) stated_is
     (connects journal c.args.logic.now c.requires.logic concluded.legal implies_name refl a b c.requires.formula concluded.formula))
 

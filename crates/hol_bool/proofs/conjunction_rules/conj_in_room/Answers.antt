@@ -16,7 +16,7 @@ use Rattle.hol_bool.proofs.ConjunctionAnswers.{conj_equation, conj-fits-at, conj
 use Rattle.hol_bool.proofs.PreludeSteps.{where-no-room}
 use Rattle.hol_bool.proofs.FormulaLemmas.{equation-formula, connects, made-formula}
 use Rattle.hol_bool.proofs.Passing.{unchanged}
-use Rattle.hol_bool.proofs.conjunction_rules.joined.Goals as goal
+use Rattle.hol_bool.proofs.conjunction_rules.conj_in_room.Goals as goal
 
 pub returns-in_err-both-clause-derives : goal.returns-in_err-both-clause-derives
 returns-in_err-both-clause-derives c h k s t room first second fits =

@@ -20,30 +20,34 @@ use Rattle.hol_quant.specs.Witnesses.{suffices}
 use Rattle.hol_quant.proofs.PreludeParts.{exists-shows}
 use Rattle.hol_quant.proofs.ChooseLemmas.{witness, argument-known, function-known, room, formula-at, eliminates-at, for_all-is, for_all-fits, implied-fits, cases-fit}
 use Rattle.hol_quant.proofs.ChooseAnswers.{sufficient-at, derives-set}
-use Rattle.hol_quant.proofs.elimination.eliminated.Goals as goal
+use Rattle.hol_equal.proofs.StepLemmas.{passed_on}
+use Rattle.hol_quant.proofs.elimination.choose_in_room.Goals as goal
 
-pub returns-in-Err-clause-derives : goal.returns-in-Err-clause-derives
-returns-in-Err-clause-derives c at is none = c.in-Err.ensures.derives at
+pub returns-in_err-sufficient-clause-derives : goal.returns-in_err-sufficient-clause-derives
+returns-in_err-sufficient-clause-derives c at is none =
+    rw (passed_on c.from_residual.result c.in_err-sufficient.field-0.0 c.from_residual.ensures.1) (
+    c.in_err-sufficient.ensures.derives at)
 
-pub returns-in-Err-generalized_up_to_names-clause-derives : goal.returns-in-Err-generalized_up_to_names-clause-derives
-returns-in-Err-generalized_up_to_names-clause-derives c at is none =
+pub returns-in_err-always-clause-derives : goal.returns-in_err-always-clause-derives
+returns-in_err-always-clause-derives c at is none =
+    rw (passed_on c.from_residual-in_err-always.result c.in_err-always.field-0.0 c.from_residual-in_err-always.ensures.1) (
     let theory = c.args.recorder.now.theory in
     let function = c.args.function.now in
     let binder = c.args.binder.now in
     let argument = c.args.argument.now in
     let second = c.args.second.now.theorem in
     let q = second.conclusion in
-    let sufficient = c.in-Ok.sufficient.theorem in
+    let sufficient = c.in_ok-sufficient.sufficient.theorem in
     let others = without (witness theory function binder argument at) (images second) in
-    let enough = sufficient-at theory function binder argument at q others sufficient c.conclusion_of-formula.ensures.formula.typed none (c.in-Ok.ensures.derives at) in
-    c.in-Err-generalized_up_to_names.ensures.derives at.other at.ty (room theory function binder argument at q)
-    (subst (λ (th : Theory). MayGeneralize th sufficient argument at.other at.ty) (sym c.in-Ok.ensures.continues.theory) enough.may)
-    (for_all-fits theory function binder argument at q sufficient.conclusion enough.typed enough.is)
+    let enough = sufficient-at theory function binder argument at q others sufficient c.conclusion_of-formula.ensures.formula.typed none (c.in_ok-sufficient.ensures.derives at) in
+    c.in_err-always.ensures.derives at.other at.ty (room theory function binder argument at q)
+    (subst (λ (th : Theory). MayGeneralize th sufficient argument at.other at.ty) (sym c.in_ok-sufficient.ensures.continues.theory) enough.may)
+    (for_all-fits theory function binder argument at q sufficient.conclusion enough.typed enough.is))
 
-pub generalized_up_to_names-requires-clause-variable : goal.generalized_up_to_names-requires-clause-variable
-generalized_up_to_names-requires-clause-variable c =
+pub gen_in_room-requires-clause-variable : goal.gen_in_room-requires-clause-variable
+gen_in_room-requires-clause-variable c =
     let at = c.requires.at in
-    subst (λ (th : Theory). IsKnownVariable th c.args.argument.now) (sym c.in-Ok.ensures.continues.theory)
+    subst (λ (th : Theory). IsKnownVariable th c.args.argument.now) (sym c.in_ok-sufficient.ensures.continues.theory)
     (record { name = at.other; ty = at.ty; is = at.argument_is; known = at.type_known })
 
 pub by_formula_lemma-requires-clause-known : goal.by_formula_lemma-requires-clause-known
@@ -53,19 +57,20 @@ by_formula_lemma-requires-clause-known c =
     let binder = c.args.binder.now in
     let argument = c.args.argument.now in
     let at = c.requires.at in
-    let later : c.generalized_up_to_names.new.recorder.theory ≡ theory = c.in-Ok-generalized_up_to_names.ensures.continues.theory ∙ c.in-Ok.ensures.continues.theory in
+    let later : c.gen_in_room.new.recorder.theory ≡ theory = c.in_ok-always.ensures.continues.theory ∙ c.in_ok-sufficient.ensures.continues.theory in
     subst (λ (th : Theory). AreKnown th function argument) (sym later)
     (record { ty = at.ty; function_known = function-known theory function binder argument at; element_known = argument-known theory function binder argument at })
 
 pub by_formula_lemma-requires-clause-formula : goal.by_formula_lemma-requires-clause-formula
 by_formula_lemma-requires-clause-formula c =
-    let later : c.generalized_up_to_names.new.recorder.theory ≡ c.args.recorder.now.theory =
-    c.in-Ok-generalized_up_to_names.ensures.continues.theory ∙ c.in-Ok.ensures.continues.theory in
-    subst (λ (t : NamedTerm). IsFormula c.generalized_up_to_names.new.recorder.theory t) (sym c.conclusion_of-formula.ensures.value)
+    let later : c.gen_in_room.new.recorder.theory ≡ c.args.recorder.now.theory =
+    c.in_ok-always.ensures.continues.theory ∙ c.in_ok-sufficient.ensures.continues.theory in
+    subst (λ (t : NamedTerm). IsFormula c.gen_in_room.new.recorder.theory t) (sym c.conclusion_of-formula.ensures.value)
     (subst (λ (th : Theory). IsFormula th c.args.second.now.theorem.conclusion) (sym later) c.conclusion_of-formula.ensures.formula)
 
-pub returns-in-Err-by_formula_lemma-clause-derives : goal.returns-in-Err-by_formula_lemma-clause-derives
-returns-in-Err-by_formula_lemma-clause-derives c at is none =
+pub returns-in_err-cases-clause-derives : goal.returns-in_err-cases-clause-derives
+returns-in_err-cases-clause-derives c at is none =
+    rw (passed_on c.from_residual-in_err-cases.result c.in_err-cases.field-0.0 c.from_residual-in_err-cases.ensures.1) (
     let theory = c.args.recorder.now.theory in
     let function = c.args.function.now in
     let binder = c.args.binder.now in
@@ -73,32 +78,32 @@ returns-in-Err-by_formula_lemma-clause-derives c at is none =
     let first = c.args.first.now.theorem in
     let second = c.args.second.now.theorem in
     let q = second.conclusion in
-    let sufficient = c.in-Ok.sufficient.theorem in
+    let sufficient = c.in_ok-sufficient.sufficient.theorem in
     let others = without (witness theory function binder argument at) (images second) in
-    let enough = sufficient-at theory function binder argument at q others sufficient c.conclusion_of-formula.ensures.formula.typed none (c.in-Ok.ensures.derives at) in
-    let later : c.generalized_up_to_names.new.recorder.theory ≡ theory = c.in-Ok-generalized_up_to_names.ensures.continues.theory ∙ c.in-Ok.ensures.continues.theory in
+    let enough = sufficient-at theory function binder argument at q others sufficient c.conclusion_of-formula.ensures.formula.typed none (c.in_ok-sufficient.ensures.derives at) in
+    let later : c.gen_in_room.new.recorder.theory ≡ theory = c.in_ok-always.ensures.continues.theory ∙ c.in_ok-sufficient.ensures.continues.theory in
     let function_there = subst (λ (th : Theory). IsKnown th (image function) (predicate at.ty)) (sym later) (function-known theory function binder argument at) in
     let argument_there = subst (λ (th : Theory). IsKnown th (image argument) at.ty) (sym later) (argument-known theory function binder argument at) in
-    let formula_there = subst (λ (t : NamedTerm). IsFormula c.generalized_up_to_names.new.recorder.theory t) (sym c.conclusion_of-formula.ensures.value)
+    let formula_there = subst (λ (t : NamedTerm). IsFormula c.gen_in_room.new.recorder.theory t) (sym c.conclusion_of-formula.ensures.value)
     (subst (λ (th : Theory). IsFormula th q) (sym later) c.conclusion_of-formula.ensures.formula) in
     let premise = subst (λ (t : NamedTerm). Shows first (images first) (at_formula at.ty function t (over_predicate exists_name))) (sym c.conclusion_of-formula.ensures.value)
     (subst (λ (t : Nameless). Shows first (images first) t) (is ∙ sym (formula-at theory function binder argument at q)) (shows-itself first)) in
-    past-room c.in-Err-by_formula_lemma.fault (formula_lemma_fits at.ty function q (over_predicate exists_name) eliminated) (room theory function binder argument at q)
+    past-room c.in_err-cases.field-0.0 (formula_lemma_fits at.ty function q (over_predicate exists_name) eliminated) (room theory function binder argument at q)
     (subst (λ (t : NamedTerm). DerivesIf (formula_lemma_fits at.ty function t (over_predicate exists_name) eliminated)
-    (Err c.in-Err-by_formula_lemma.fault) (images first) (at_formula at.ty function t eliminated)) c.conclusion_of-formula.ensures.value
-    (c.in-Err-by_formula_lemma.ensures.derives at.ty function_there argument_there formula_there (images first)
+    (Err c.in_err-cases.field-0.0) (images first) (at_formula at.ty function t eliminated)) c.conclusion_of-formula.ensures.value
+    (c.in_err-cases.ensures.derives at.ty function_there argument_there formula_there (images first)
     (over_predicate exists_name) eliminated (exists-shows c.theorem_of-lemma.result.now.theorem c.theorem_of-lemma.ensures.theorem) premise))
-    (cases-fit theory function binder argument at q sufficient.conclusion enough.typed enough.is enough.fresh enough.fresh_q)
+    (cases-fit theory function binder argument at q sufficient.conclusion enough.typed enough.is enough.fresh enough.fresh_q))
 
-pub implied-requires-clause-logic : goal.implied-requires-clause-logic
-implied-requires-clause-logic c =
+pub mp_in_room-requires-clause-logic : goal.mp_in_room-requires-clause-logic
+mp_in_room-requires-clause-logic c =
     let logic = c.args.logic.now in
-    still_logical c.generalized_up_to_names.new.recorder c.by_formula_lemma.new.recorder (Ok c.in-Ok-by_formula_lemma.cases) logic c.in-Ok-by_formula_lemma.ensures.continues
-    (still_logical c.implied_by_redex.new.recorder c.generalized_up_to_names.new.recorder (Ok c.in-Ok-generalized_up_to_names.always) logic c.in-Ok-generalized_up_to_names.ensures.continues
-    (still_logical c.args.recorder.now c.implied_by_redex.new.recorder (Ok c.in-Ok.sufficient) logic c.in-Ok.ensures.continues c.requires.logic))
+    still_logical c.gen_in_room.new.recorder c.by_formula_lemma.new.recorder (Ok c.in_ok-cases.cases) logic c.in_ok-cases.ensures.continues
+    (still_logical c.implied_by_redex.new.recorder c.gen_in_room.new.recorder (Ok c.in_ok-always.always) logic c.in_ok-always.ensures.continues
+    (still_logical c.args.recorder.now c.implied_by_redex.new.recorder (Ok c.in_ok-sufficient.sufficient) logic c.in_ok-sufficient.ensures.continues c.requires.logic))
 
 pub returns-clause-names : goal.returns-clause-names
-returns-clause-names c = subst (λ (t : NamedTerm). IfOk c.implied.result (λ made. made.theorem.conclusion ≡ t)) c.conclusion_of-formula.ensures.value c.implied.ensures.names
+returns-clause-names c = subst (λ (t : NamedTerm). IfOk c.mp_in_room.result (λ made. made.theorem.conclusion ≡ t)) c.conclusion_of-formula.ensures.value c.mp_in_room.ensures.names
 
 pub returns-clause-derives : goal.returns-clause-derives
 returns-clause-derives c at is none =
@@ -109,31 +114,31 @@ returns-clause-derives c at is none =
     let first = c.args.first.now.theorem in
     let second = c.args.second.now.theorem in
     let q = second.conclusion in
-    let sufficient = c.in-Ok.sufficient.theorem in
+    let sufficient = c.in_ok-sufficient.sufficient.theorem in
     let others = without (witness theory function binder argument at) (images second) in
-    let enough = sufficient-at theory function binder argument at q others sufficient c.conclusion_of-formula.ensures.formula.typed none (c.in-Ok.ensures.derives at) in
+    let enough = sufficient-at theory function binder argument at q others sufficient c.conclusion_of-formula.ensures.formula.typed none (c.in_ok-sufficient.ensures.derives at) in
     let fits = room theory function binder argument at q in
     let here = closed at.name at.ty at.body in
-    let always = subst (λ (t : Nameless). Shows c.in-Ok-generalized_up_to_names.always.theorem (images sufficient) t)
+    let always = subst (λ (t : Nameless). Shows c.in_ok-always.always.theorem (images sufficient) t)
     (for_all-is theory function binder argument at q sufficient.conclusion enough.is enough.fresh enough.fresh_q)
-    (c.in-Ok-generalized_up_to_names.ensures.derives at.other at.ty fits
-    (subst (λ (th : Theory). MayGeneralize th sufficient argument at.other at.ty) (sym c.in-Ok.ensures.continues.theory) enough.may)
+    (c.in_ok-always.ensures.derives at.other at.ty fits
+    (subst (λ (th : Theory). MayGeneralize th sufficient argument at.other at.ty) (sym c.in_ok-sufficient.ensures.continues.theory) enough.may)
     (for_all-fits theory function binder argument at q sufficient.conclusion enough.typed enough.is)) in
-    let later : c.generalized_up_to_names.new.recorder.theory ≡ theory = c.in-Ok-generalized_up_to_names.ensures.continues.theory ∙ c.in-Ok.ensures.continues.theory in
+    let later : c.gen_in_room.new.recorder.theory ≡ theory = c.in_ok-always.ensures.continues.theory ∙ c.in_ok-sufficient.ensures.continues.theory in
     let function_there = subst (λ (th : Theory). IsKnown th (image function) (predicate at.ty)) (sym later) (function-known theory function binder argument at) in
     let argument_there = subst (λ (th : Theory). IsKnown th (image argument) at.ty) (sym later) (argument-known theory function binder argument at) in
-    let formula_there = subst (λ (t : NamedTerm). IsFormula c.generalized_up_to_names.new.recorder.theory t) (sym c.conclusion_of-formula.ensures.value)
+    let formula_there = subst (λ (t : NamedTerm). IsFormula c.gen_in_room.new.recorder.theory t) (sym c.conclusion_of-formula.ensures.value)
     (subst (λ (th : Theory). IsFormula th q) (sym later) c.conclusion_of-formula.ensures.formula) in
     let premise = subst (λ (t : NamedTerm). Shows first (images first) (at_formula at.ty function t (over_predicate exists_name))) (sym c.conclusion_of-formula.ensures.value)
     (subst (λ (t : Nameless). Shows first (images first) t) (is ∙ sym (formula-at theory function binder argument at q)) (shows-itself first)) in
-    let by_lemma = subst (λ (t : NamedTerm). Shows c.in-Ok-by_formula_lemma.cases.theorem (images first) (at_formula at.ty function t eliminated)) c.conclusion_of-formula.ensures.value
-    (c.in-Ok-by_formula_lemma.ensures.derives at.ty function_there argument_there formula_there (images first)
+    let by_lemma = subst (λ (t : NamedTerm). Shows c.in_ok-cases.cases.theorem (images first) (at_formula at.ty function t eliminated)) c.conclusion_of-formula.ensures.value
+    (c.in_ok-cases.ensures.derives at.ty function_there argument_there formula_there (images first)
     (over_predicate exists_name) eliminated (exists-shows c.theorem_of-lemma.result.now.theorem c.theorem_of-lemma.ensures.theorem) premise) in
-    let cases = subst (λ (t : Nameless). Shows c.in-Ok-by_formula_lemma.cases.theorem (images first) t) (eliminates-at theory function binder argument at q) by_lemma in
+    let cases = subst (λ (t : Nameless). Shows c.in_ok-cases.cases.theorem (images first) t) (eliminates-at theory function binder argument at q) by_lemma in
     let answer = subst (λ (t : NamedTerm).
-    Shows c.in-Ok-by_formula_lemma.cases.theorem (images first) (nameless.implication (suffices at.ty here (image q)) (image t))
+    Shows c.in_ok-cases.cases.theorem (images first) (nameless.implication (suffices at.ty here (image q)) (image t))
     → FitsIf fits (nameless_equation bool_type (nameless.implication (suffices at.ty here (image q)) (image t)) (image t))
-    → DerivesIf fits c.implied.result (images sufficient ++ images first) (image t)) c.conclusion_of-formula.ensures.value
-    (λ one room_for. c.implied.ensures.derives (images first) (images sufficient) (suffices at.ty here (image q)) fits one always room_for)
+    → DerivesIf fits c.mp_in_room.result (images sufficient ++ images first) (image t)) c.conclusion_of-formula.ensures.value
+    (λ one room_for. c.mp_in_room.ensures.derives (images first) (images sufficient) (suffices at.ty here (image q)) fits one always room_for)
     cases (implied-fits theory function binder argument at q sufficient.conclusion enough.typed enough.is enough.fresh enough.fresh_q) in
-    derives-set fits c.implied.result (images sufficient ++ images first) (images first ++ others) (image q) (enough.set (images first)) answer
+    derives-set fits c.mp_in_room.result (images sufficient ++ images first) (images first ++ others) (image q) (enough.set (images first)) answer

@@ -13,7 +13,7 @@ use Rattle.hol_bool.proofs.FormulaLemmas.{connects, made-formula}
 use Rattle.hol_equal.specs.Formulas.{IsFormula}
 use Rattle.hol_bool.proofs.Passing.{unchanged}
 use Rattle.hol_equal.proofs.StepLemmas.{passed_on}
-use Rattle.hol_bool.proofs.disjunction_rules.eliminated.Goals as goal
+use Rattle.hol_bool.proofs.disjunction_rules.disj_cases_in_room.Goals as goal
 
 pub returns-in_err-case-clause-derives : goal.returns-in_err-case-clause-derives
 returns-in_err-case-clause-derives c h room shown whole stated =

@@ -14,14 +14,17 @@ use Rattle.hol_equal.proofs.CutLemmas.{derives-where}
 use Rattle.hol_quant.specs.PredicateLemmas.{AreKnown, applied, over_predicate, lemma_fits}
 use Rattle.hol_quant.proofs.PreludeParts.{witness-shows}
 use Rattle.hol_quant.proofs.ExistsLemmas.{small, predicate_known, redex-at, formula-at, exists-lemma-within, exists-names-within}
-use Rattle.hol_quant.proofs.existence.witnessed.Goals as goal
+use Rattle.hol_equal.proofs.StepLemmas.{passed_on}
+use Rattle.hol_quant.proofs.existence.exists_in_room.Goals as goal
 
-pub returns-in-Err-clause-derives : goal.returns-in-Err-clause-derives
-returns-in-Err-clause-derives c at = c.in-Err.ensures.derives c.args.formula.now at
+pub returns-in_err-redex-clause-derives : goal.returns-in_err-redex-clause-derives
+returns-in_err-redex-clause-derives c at =
+    rw (passed_on c.from_residual.result c.in_err-redex.field-0.0 c.from_residual.ensures.1) (
+    c.in_err-redex.ensures.derives c.args.formula.now at)
 
 pub by_predicate_lemma-requires-clause-lemma : goal.by_predicate_lemma-requires-clause-lemma
 by_predicate_lemma-requires-clause-lemma c =
-    journals-grow.stays c.args.recorder.now c.expanded.new.recorder c.theorem_of-lemma.result.now c.in-Ok.ensures.continues.grown c.theorem_of-lemma.ensures.made
+    journals-grow.stays c.args.recorder.now c.expanded.new.recorder c.theorem_of-lemma.result.now c.in_ok-redex.ensures.continues.grown c.theorem_of-lemma.ensures.made
 
 pub by_predicate_lemma-requires-clause-known : goal.by_predicate_lemma-requires-clause-known
 by_predicate_lemma-requires-clause-known c =
@@ -29,12 +32,13 @@ by_predicate_lemma-requires-clause-known c =
     let function = c.args.parts.predicate.now in
     let witness = c.args.witness.now in
     let at = c.requires.witnessed in
-    let later : c.expanded.new.recorder.theory ≡ theory = c.in-Ok.ensures.continues.theory in
+    let later : c.expanded.new.recorder.theory ≡ theory = c.in_ok-redex.ensures.continues.theory in
     let function_known = predicate_known theory c.args.formula.now function c.args.parts.binder.now c.args.parts.body.now witness (image c.args.premise.now.theorem.conclusion) at in
     subst (λ (th : Theory). AreKnown th function witness) (sym later) (record { ty = at.parts.ty; function_known = function_known; element_known = at.witness_known })
 
-pub returns-in-Err-by_predicate_lemma-clause-derives : goal.returns-in-Err-by_predicate_lemma-clause-derives
-returns-in-Err-by_predicate_lemma-clause-derives c at =
+pub returns-in_err-answer-clause-derives : goal.returns-in_err-answer-clause-derives
+returns-in_err-answer-clause-derives c at =
+    rw (passed_on c.from_residual-in_err-answer.result c.in_err-answer.field-0.0 c.from_residual-in_err-answer.ensures.1) (
     let formula = c.args.formula.now in
     let theory = c.args.recorder.now.theory in
     let function = c.args.parts.predicate.now in
@@ -45,14 +49,14 @@ returns-in-Err-by_predicate_lemma-clause-derives c at =
     let instance = image premise.conclusion in
     let fits = list_all is_roomy (small theory formula function binder body witness instance at) in
     let shows = witness-shows c.theorem_of-lemma.result.now.theorem c.theorem_of-lemma.ensures.theorem in
-    let later : c.expanded.new.recorder.theory ≡ theory = c.in-Ok.ensures.continues.theory in
+    let later : c.expanded.new.recorder.theory ≡ theory = c.in_ok-redex.ensures.continues.theory in
     let function_known = subst (λ (th : Theory). IsKnown th (image function) (predicate at.parts.ty)) (sym later) (predicate_known theory formula function binder body witness instance at) in
     let witness_known = subst (λ (th : Theory). IsKnown th (image witness) at.parts.ty) (sym later) at.witness_known in
-    let premise_shows = subst (λ (t : Nameless). Shows c.in-Ok.redex.theorem (images premise) t)
-    (sym (redex-at theory formula function binder body witness instance at)) (c.in-Ok.ensures.derives formula at) in
-    past-room c.in-Err-by_predicate_lemma.fault (lemma_fits at.parts.ty function witness applied (over_predicate exists_name)) fits
-    (c.in-Err-by_predicate_lemma.ensures.derives at.parts.ty function_known witness_known (images premise) applied
-    (over_predicate exists_name) shows premise_shows) (exists-lemma-within theory formula function binder body witness instance at)
+    let premise_shows = subst (λ (t : Nameless). Shows c.in_ok-redex.redex.theorem (images premise) t)
+    (sym (redex-at theory formula function binder body witness instance at)) (c.in_ok-redex.ensures.derives formula at) in
+    past-room c.in_err-answer.field-0.0 (lemma_fits at.parts.ty function witness applied (over_predicate exists_name)) fits
+    (c.in_err-answer.ensures.derives at.parts.ty function_known witness_known (images premise) applied
+    (over_predicate exists_name) shows premise_shows) (exists-lemma-within theory formula function binder body witness instance at))
 
 pub returns-clause-derives : goal.returns-clause-derives
 returns-clause-derives c at =
@@ -66,13 +70,13 @@ returns-clause-derives c at =
     let instance = image premise.conclusion in
     let fits = list_all is_roomy (small theory formula function binder body witness instance at) in
     let shows = witness-shows c.theorem_of-lemma.result.now.theorem c.theorem_of-lemma.ensures.theorem in
-    let later : c.expanded.new.recorder.theory ≡ theory = c.in-Ok.ensures.continues.theory in
+    let later : c.expanded.new.recorder.theory ≡ theory = c.in_ok-redex.ensures.continues.theory in
     let function_known = subst (λ (th : Theory). IsKnown th (image function) (predicate at.parts.ty)) (sym later) (predicate_known theory formula function binder body witness instance at) in
     let witness_known = subst (λ (th : Theory). IsKnown th (image witness) at.parts.ty) (sym later) at.witness_known in
-    let premise_shows = subst (λ (t : Nameless). Shows c.in-Ok.redex.theorem (images premise) t)
-    (sym (redex-at theory formula function binder body witness instance at)) (c.in-Ok.ensures.derives formula at) in
-    let answer = subst (λ (t : Nameless). Shows c.in-Ok-by_predicate_lemma.answer.theorem (images premise) t) (formula-at theory formula function binder body witness instance at)
-    (c.in-Ok-by_predicate_lemma.ensures.derives at.parts.ty function_known witness_known (images premise) applied (over_predicate exists_name) shows premise_shows) in
+    let premise_shows = subst (λ (t : Nameless). Shows c.in_ok-redex.redex.theorem (images premise) t)
+    (sym (redex-at theory formula function binder body witness instance at)) (c.in_ok-redex.ensures.derives formula at) in
+    let answer = subst (λ (t : Nameless). Shows c.in_ok-answer.answer.theorem (images premise) t) (formula-at theory formula function binder body witness instance at)
+    (c.in_ok-answer.ensures.derives at.parts.ty function_known witness_known (images premise) applied (over_predicate exists_name) shows premise_shows) in
     derives-where (nameless_within_limits (nameless_equation bool_type (image formula) (image formula))) fits c.named.result (images premise)
     (image formula) (exists-names-within theory formula function binder body witness instance at)
     (c.named.ensures.derives (images premise) answer)
