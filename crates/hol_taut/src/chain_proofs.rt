@@ -76,14 +76,8 @@ fn from_rest(
     requires shortest { IsMade recorder.old shortest.now }
     ensures continues { Continues recorder.old recorder.new result }
 {
-    let rest = match rest(recorder, alloc, laws, shortest) {
-        Ok(rest) => rest,
-        Err(fault) => return Err(fault),
-    };
-    let back = match sym(recorder, alloc, shortest) {
-        Ok(back) => back,
-        Err(fault) => return Err(fault),
-    };
+    let rest = rest(recorder, alloc, laws, shortest)?;
+    let back = sym(recorder, alloc, shortest)?;
     eq_mp(recorder, alloc, &back, &rest)
 }
 
@@ -100,10 +94,7 @@ fn by_chain_laws(
     requires chain_laws { HasChainLaws recorder.old chain_laws.now }
     ensures continues { Continues recorder.old recorder.new result }
 {
-    let shortest = match normal_form(recorder, alloc, chain_laws, term, term) {
-        Ok(shortest) => shortest,
-        Err(fault) => return Err(fault),
-    };
+    let shortest = normal_form(recorder, alloc, chain_laws, term, term)?;
     from_rest(recorder, alloc, laws, &shortest)
 }
 
@@ -135,22 +126,10 @@ fn by_normal_form(
     requires laws { HasLaws recorder.old laws.now }
     ensures continues { Continues recorder.old recorder.new result }
 {
-    let commuted = match chain_law(recorder, alloc, laws, commuted(alloc)) {
-        Ok(law) => law,
-        Err(fault) => return Err(fault),
-    };
-    let exchanged = match chain_law(recorder, alloc, laws, exchanged(alloc)) {
-        Ok(law) => law,
-        Err(fault) => return Err(fault),
-    };
-    let paired = match chain_law(recorder, alloc, laws, paired(alloc)) {
-        Ok(law) => law,
-        Err(fault) => return Err(fault),
-    };
-    let truth = match law_theorem(recorder, laws, Law::Truth).copy(alloc) {
-        Ok(law) => law,
-        Err(fault) => return Err(fault),
-    };
+    let commuted = chain_law(recorder, alloc, laws, commuted(alloc))?;
+    let exchanged = chain_law(recorder, alloc, laws, exchanged(alloc))?;
+    let paired = chain_law(recorder, alloc, laws, paired(alloc))?;
+    let truth = law_theorem(recorder, laws, Law::Truth).copy(alloc)?;
     let chain_laws = ChainLaws {
         truth,
         commuted,
@@ -171,18 +150,9 @@ fn without_negated(
     requires laws { HasLaws recorder.old laws.now }
     ensures continues { Continues recorder.old recorder.new result }
 {
-    let left = match chain_law(recorder, alloc, laws, negated_left(alloc)) {
-        Ok(law) => law,
-        Err(fault) => return Err(fault),
-    };
-    let right = match chain_law(recorder, alloc, laws, negated_right(alloc)) {
-        Ok(law) => law,
-        Err(fault) => return Err(fault),
-    };
-    let twice = match chain_law(recorder, alloc, laws, negated_twice(alloc)) {
-        Ok(law) => law,
-        Err(fault) => return Err(fault),
-    };
+    let left = chain_law(recorder, alloc, laws, negated_left(alloc))?;
+    let right = chain_law(recorder, alloc, laws, negated_right(alloc))?;
+    let twice = chain_law(recorder, alloc, laws, negated_twice(alloc))?;
     without_negations(recorder, alloc, &NegationLaws { left, right, twice }, term)
 }
 
@@ -201,14 +171,8 @@ fn from_positive(
     let Some((_, rest)) = sides_of(conclusion_of(recorder, positive)) else {
         return Err(Fault::BadShape);
     };
-    let made = match by_normal_form(recorder, alloc, laws, rest) {
-        Ok(made) => made,
-        Err(fault) => return Err(fault),
-    };
-    let back = match sym(recorder, alloc, positive) {
-        Ok(back) => back,
-        Err(fault) => return Err(fault),
-    };
+    let made = by_normal_form(recorder, alloc, laws, rest)?;
+    let back = sym(recorder, alloc, positive)?;
     eq_mp(recorder, alloc, &back, &made)
 }
 
@@ -223,10 +187,7 @@ fn by_positive(
     requires laws { HasLaws recorder.old laws.now }
     ensures continues { Continues recorder.old recorder.new result }
 {
-    let positive = match without_negated(recorder, alloc, laws, term) {
-        Ok(positive) => positive,
-        Err(fault) => return Err(fault),
-    };
+    let positive = without_negated(recorder, alloc, laws, term)?;
     from_positive(recorder, alloc, laws, &positive)
 }
 

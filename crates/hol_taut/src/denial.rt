@@ -27,14 +27,8 @@ fn from_falsity(recorder: &mut Recorder, alloc: Global, laws: &Laws, p: &Term) -
     ensures proves { (allowed : List Nameless) (room : Room) → FitsIf room (image p.now) → ProvesIf room result (nameless.false_term ∷ allowed) (image p.now) }
 {
     recorder.theory_is_legal();
-    let falsity = match false_formula(alloc) {
-        Ok(falsity) => falsity,
-        Err(fault) => return Err(fault),
-    };
-    let assumed = match assume(recorder, alloc, &falsity) {
-        Ok(assumed) => assumed,
-        Err(fault) => return Err(fault),
-    };
+    let falsity = false_formula(alloc)?;
+    let assumed = assume(recorder, alloc, &falsity)?;
     by_one(recorder, alloc, laws, Law::Contr, p, p, &assumed)
 }
 
@@ -53,9 +47,6 @@ pub(crate) fn denied_by(
     ensures continues { Continues recorder.old recorder.new result }
     ensures proves { FalsityDenies (image p.now) absurd.now.theorem result }
 {
-    let given = match from_falsity(recorder, alloc, laws, p) {
-        Ok(given) => given,
-        Err(fault) => return Err(fault),
-    };
+    let given = from_falsity(recorder, alloc, laws, p)?;
     by_both(recorder, alloc, &given, absurd)
 }

@@ -22,10 +22,7 @@ fn by_instance(
     requires laws { HasLaws recorder.old laws.now }
     ensures continues { Continues recorder.old recorder.new result }
 {
-    let made = match by_splits(recorder, alloc, laws, general) {
-        Ok(made) => made,
-        Err(fault) => return Err(fault),
-    };
+    let made = by_splits(recorder, alloc, laws, general)?;
     if chains.is_empty() {
         return Ok(made);
     }

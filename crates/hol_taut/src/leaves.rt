@@ -56,13 +56,7 @@ pub(crate) fn constantly(
         return named(recorder, alloc, conclusion, truth);
     }
     recorder.theory_is_legal();
-    let falsity = match false_formula(alloc) {
-        Ok(falsity) => falsity,
-        Err(fault) => return Err(fault),
-    };
-    let assumed = match assume(recorder, alloc, &falsity) {
-        Ok(assumed) => assumed,
-        Err(fault) => return Err(fault),
-    };
+    let falsity = false_formula(alloc)?;
+    let assumed = assume(recorder, alloc, &falsity)?;
     by_both(recorder, alloc, &assumed, &assumed)
 }

@@ -60,28 +60,16 @@ pub(crate) fn refuted(
     ensures proves { DenialRefutes term.now denied.now.theorem atoms.now facts.now result }
 {
     if is_told_true(term, &*facts) {
-        let holds = match shown(recorder, alloc, laws, term, true, &*facts) {
-            Ok(holds) => holds,
-            Err(fault) => return Err(fault),
-        };
+        let holds = shown(recorder, alloc, laws, term, true, &*facts)?;
         return by_equation(recorder, alloc, denied, &holds);
     }
     let Some(atom) = next_atom(term, atoms, denied, &*facts) else {
         unreachable!();
     };
-    let assumed = match assume(recorder, alloc, atom) {
-        Ok(assumed) => assumed,
-        Err(fault) => return Err(fault),
-    };
+    let assumed = assume(recorder, alloc, atom)?;
     let with_true = Facts::Fact(atom, true, &assumed, &*facts);
-    let absurd = match refuted(recorder, alloc, laws, term, denied, atoms, &with_true) {
-        Ok(absurd) => absurd,
-        Err(fault) => return Err(fault),
-    };
-    let fact = match denied_by(recorder, alloc, laws, atom, &absurd) {
-        Ok(fact) => fact,
-        Err(fault) => return Err(fault),
-    };
+    let absurd = refuted(recorder, alloc, laws, term, denied, atoms, &with_true)?;
+    let fact = denied_by(recorder, alloc, laws, atom, &absurd)?;
     let with_false = Facts::Fact(atom, false, &fact, &*facts);
     refuted(recorder, alloc, laws, term, denied, atoms, &with_false)
 }

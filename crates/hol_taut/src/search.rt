@@ -45,10 +45,7 @@ fn by_general(
     if let Err(fault) = atoms_of_tautology(alloc, general) {
         return Err(fault);
     }
-    let made = match by_chains_or_splits(recorder, alloc, laws, general) {
-        Ok(made) => made,
-        Err(fault) => return Err(fault),
-    };
+    let made = by_chains_or_splits(recorder, alloc, laws, general)?;
     instance(recorder, alloc, parts, &made)
 }
 
@@ -58,10 +55,7 @@ fn by_shared(recorder: &mut Recorder, alloc: Global, laws: &Laws, term: &Term) -
     ensures continues { Continues recorder.old recorder.new result }
 {
     let mut parts = Vec::new(alloc);
-    let general = match without_shared(alloc, term, &mut parts) {
-        Ok(general) => general,
-        Err(fault) => return Err(fault),
-    };
+    let general = without_shared(alloc, term, &mut parts)?;
     if parts.is_empty() {
         return Err(Fault::BadShape);
     }

@@ -43,33 +43,21 @@ pub(crate) fn shown(
         Form::Atom => from_fact(recorder, alloc, term, &*facts),
         Form::Constantly(_) => constantly(recorder, alloc, laws, value),
         Form::Negated(part) => {
-            let premise = match shown(recorder, alloc, laws, part, !value, &*facts) {
-                Ok(premise) => premise,
-                Err(fault) => return Err(fault),
-            };
-            denial(recorder, alloc, laws, part, value, &premise)
+            let opposite = shown(recorder, alloc, laws, part, !value, &*facts)?;
+            denial(recorder, alloc, laws, part, value, &opposite)
         }
         Form::Connected(connective, left, right) => {
             let left_value = known_value(left, &*facts);
             let right_value = known_value(right, &*facts);
             let way = way_to(connective, value, left_value, right_value);
             let side = first_side(way, left, right);
-            let premise = match shown(recorder, alloc, laws, side, first_value(way), &*facts) {
-                Ok(premise) => premise,
-                Err(fault) => return Err(fault),
-            };
-            let first = match by_first(recorder, alloc, laws, law_of(way), left, right, premise) {
-                Ok(first) => first,
-                Err(fault) => return Err(fault),
-            };
+            let premise = shown(recorder, alloc, laws, side, first_value(way), &*facts)?;
+            let first = by_first(recorder, alloc, laws, law_of(way), left, right, premise)?;
             if !takes_second(way) {
                 return Ok(first);
             }
             let other = second_side(way, left, right);
-            let second = match shown(recorder, alloc, laws, other, second_value(way), &*facts) {
-                Ok(second) => second,
-                Err(fault) => return Err(fault),
-            };
+            let second = shown(recorder, alloc, laws, other, second_value(way), &*facts)?;
             with_second(recorder, alloc, way, &first, &second)
         }
     }

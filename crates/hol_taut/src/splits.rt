@@ -45,18 +45,9 @@ pub(crate) fn split(
     ensures continues { Continues recorder.old recorder.new result }
     ensures proves { (room : Room) → IsSmallIf room (image term.now) → ProvesIf room result [] (image term.now) }
 {
-    let denied = match assume(recorder, alloc, denial) {
-        Ok(denied) => denied,
-        Err(fault) => return Err(fault),
-    };
-    let absurd = match refuted(recorder, alloc, laws, term, &denied, atoms, &Facts::Nothing) {
-        Ok(absurd) => absurd,
-        Err(fault) => return Err(fault),
-    };
-    let denied_denial = match denied_by(recorder, alloc, laws, denial, &absurd) {
-        Ok(denied_denial) => denied_denial,
-        Err(fault) => return Err(fault),
-    };
+    let denied = assume(recorder, alloc, denial)?;
+    let absurd = refuted(recorder, alloc, laws, term, &denied, atoms, &Facts::Nothing)?;
+    let denied_denial = denied_by(recorder, alloc, laws, denial, &absurd)?;
     by_one(
         recorder,
         alloc,
@@ -79,23 +70,11 @@ fn by_own_splits(
     requires laws { HasLaws recorder.old laws.now }
     ensures continues { Continues recorder.old recorder.new result }
 {
-    match pass_formula(recorder, term) {
-        Ok(()) => {}
-        Err(fault) => return Err(fault),
-    }
-    let atoms = match atoms_of_tautology(alloc, term) {
-        Ok(atoms) => atoms,
-        Err(fault) => return Err(fault),
-    };
+    pass_formula(recorder, term)?;
+    let atoms = atoms_of_tautology(alloc, term)?;
     recorder.theory_is_legal();
-    let falsity = match false_formula(alloc) {
-        Ok(falsity) => falsity,
-        Err(fault) => return Err(fault),
-    };
-    let denial = match equivalence(alloc, term, &falsity) {
-        Ok(denial) => denial,
-        Err(fault) => return Err(fault),
-    };
+    let falsity = false_formula(alloc)?;
+    let denial = equivalence(alloc, term, &falsity)?;
     split(recorder, alloc, laws, term, &denial, &atoms)
 }
 

@@ -35,10 +35,7 @@ pub(crate) fn by_one(
     ensures continues { Continues recorder.old recorder.new result }
     ensures proves { LawProves recorder.old.theory law p.now q.now premise.now.theorem result }
 {
-    let terms = match for_p_q(alloc, p, q) {
-        Ok(terms) => terms,
-        Err(fault) => return Err(fault),
-    };
+    let terms = for_p_q(alloc, p, q)?;
     by_law(recorder, alloc, laws, law, &terms, premise)
 }
 

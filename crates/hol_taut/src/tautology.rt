@@ -68,26 +68,11 @@ pub fn taut(recorder: &mut Recorder, alloc: Global, laws: &Laws, term: &Term) ->
     ensures continues { Continues recorder.old recorder.new result }
     ensures outcome { AnswersSmall (theorem_in result) (image term.now) (tautology_outcome recorder.old.theory term.now) }
 {
-    match pass_formula(recorder, term) {
-        Ok(()) => {}
-        Err(fault) => return Err(fault),
-    }
-    let atoms = match atoms_of_tautology(alloc, term) {
-        Ok(atoms) => atoms,
-        Err(fault) => return Err(fault),
-    };
+    pass_formula(recorder, term)?;
+    let atoms = atoms_of_tautology(alloc, term)?;
     recorder.theory_is_legal();
-    let falsity = match false_formula(alloc) {
-        Ok(falsity) => falsity,
-        Err(fault) => return Err(fault),
-    };
-    let denial = match equivalence(alloc, term, &falsity) {
-        Ok(denial) => denial,
-        Err(fault) => return Err(fault),
-    };
-    let made = match proved(recorder, alloc, laws, term, &denial, &atoms) {
-        Ok(made) => made,
-        Err(fault) => return Err(fault),
-    };
+    let falsity = false_formula(alloc)?;
+    let denial = equivalence(alloc, term, &falsity)?;
+    let made = proved(recorder, alloc, laws, term, &denial, &atoms)?;
     named(recorder, alloc, term, &made)
 }

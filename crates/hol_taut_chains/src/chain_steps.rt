@@ -51,9 +51,6 @@ pub(crate) fn under(
     requires { IsMade recorder.old premise.now }
     ensures continues { Continues recorder.old recorder.new result }
 {
-    let same = match reflexive(recorder, alloc, function) {
-        Ok(same) => same,
-        Err(fault) => return Err(fault),
-    };
+    let same = reflexive(recorder, alloc, function)?;
     applied(recorder, alloc, &same, premise)
 }

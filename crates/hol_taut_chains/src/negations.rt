@@ -226,18 +226,9 @@ fn pulled_out(
     requires equation { IfOk equation (IsHeld recorder.old) }
     ensures continues { Continues recorder.old recorder.new result }
 {
-    let equation = match equation {
-        Ok(equation) => equation,
-        Err(fault) => return Err(fault),
-    };
-    let first = match pulled_left(recorder, alloc, laws, equation) {
-        Ok(first) => first,
-        Err(fault) => return Err(fault),
-    };
-    let second = match pulled_twice(recorder, alloc, laws, first) {
-        Ok(second) => second,
-        Err(fault) => return Err(fault),
-    };
+    let equation = equation?;
+    let first = pulled_left(recorder, alloc, laws, equation)?;
+    let second = pulled_twice(recorder, alloc, laws, first)?;
     pulled_right(recorder, alloc, laws, second)
 }
 
@@ -296,10 +287,7 @@ pub fn without_negations(
             denied(recorder, alloc, laws, term, part)
         }
         Form::Connected(_, left, right) => {
-            let left = match without_negations(recorder, alloc, laws, left) {
-                Ok(left) => left,
-                Err(fault) => return Err(fault),
-            };
+            let left = without_negations(recorder, alloc, laws, left)?;
             let right = without_negations(recorder, alloc, laws, right);
             connected(recorder, alloc, laws, term, &left, right)
         }

@@ -61,18 +61,9 @@ fn paired(
     requires second { IsMade recorder.old second.now }
     ensures continues { Continues recorder.old recorder.new result }
 {
-    let function = match equal_to(alloc, part) {
-        Ok(function) => function,
-        Err(fault) => return Err(fault),
-    };
-    let beside = match under(recorder, alloc, &function, second) {
-        Ok(beside) => beside,
-        Err(fault) => return Err(fault),
-    };
-    let without = match without_both(recorder, alloc, laws, second) {
-        Ok(without) => without,
-        Err(fault) => return Err(fault),
-    };
+    let function = equal_to(alloc, part)?;
+    let beside = under(recorder, alloc, &function, second)?;
+    let without = without_both(recorder, alloc, laws, second)?;
     trans(recorder, alloc, &beside, &without)
 }
 
@@ -88,18 +79,9 @@ fn without_pair(
     requires laws { HasChainLaws recorder.old laws.now }
     ensures continues { Continues recorder.old recorder.new result }
 {
-    let first = match pulled(recorder, alloc, laws, part, chain) {
-        Ok(first) => first,
-        Err(fault) => return Err(fault),
-    };
-    let second = match pulled_again(recorder, alloc, laws, &first) {
-        Ok(second) => second,
-        Err(fault) => return Err(fault),
-    };
-    let shorter = match paired(recorder, alloc, laws, part, &second) {
-        Ok(shorter) => shorter,
-        Err(fault) => return Err(fault),
-    };
+    let first = pulled(recorder, alloc, laws, part, chain)?;
+    let second = pulled_again(recorder, alloc, laws, &first)?;
+    let shorter = paired(recorder, alloc, laws, part, &second)?;
     trans(recorder, alloc, &first, &shorter)
 }
 
@@ -140,19 +122,13 @@ pub(crate) fn without_pairs(
     requires laws { HasChainLaws recorder.old laws.now }
     ensures continues { Continues recorder.old recorder.new result }
 {
-    let shorter = match without_pair(recorder, alloc, laws, part, chain) {
-        Ok(shorter) => shorter,
-        Err(fault) => return Err(fault),
-    };
+    let shorter = without_pair(recorder, alloc, laws, part, chain)?;
     if more == 0 {
         return Ok(shorter);
     }
     let Some((next, rest)) = next_pair(recorder, &shorter) else {
         return Ok(shorter);
     };
-    let shortest = match without_pairs(recorder, alloc, laws, next, rest, more - 1) {
-        Ok(shortest) => shortest,
-        Err(fault) => return Err(fault),
-    };
+    let shortest = without_pairs(recorder, alloc, laws, next, rest, more - 1)?;
     trans(recorder, alloc, &shorter, &shortest)
 }

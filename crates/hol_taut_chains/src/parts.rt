@@ -66,20 +66,14 @@ pub(crate) fn joined(
     requires right { IfOk right (IsHeld recorder.old) }
     ensures continues { Continues recorder.old recorder.new result }
 {
-    let right = match right {
-        Ok(right) => right,
-        Err(fault) => return Err(fault),
-    };
+    let right = right?;
     let Some(function) = function_of(term) else {
         return Err(Fault::BadShape);
     };
     let Some(connective) = function_of(function) else {
         return Err(Fault::BadShape);
     };
-    let first = match under(recorder, alloc, connective, left) {
-        Ok(first) => first,
-        Err(fault) => return Err(fault),
-    };
+    let first = under(recorder, alloc, connective, left)?;
     applied(recorder, alloc, &first, &right)
 }
 
@@ -93,10 +87,7 @@ pub(crate) fn beneath(
     requires part { IfOk part (IsHeld recorder.old) }
     ensures continues { Continues recorder.old recorder.new result }
 {
-    let part = match part {
-        Ok(part) => part,
-        Err(fault) => return Err(fault),
-    };
+    let part = part?;
     match function_of(term) {
         Some(function) => under(recorder, alloc, function, &part),
         None => Err(Fault::BadShape),
@@ -109,10 +100,7 @@ fn truth_of(recorder: &mut Recorder, alloc: Global, truth: &Rec, side: &Term) ->
     requires { IsMade recorder.old truth.now }
     ensures continues { Continues recorder.old recorder.new result }
 {
-    let same = match reflexive(recorder, alloc, side) {
-        Ok(same) => same,
-        Err(fault) => return Err(fault),
-    };
+    let same = reflexive(recorder, alloc, side)?;
     deduct_antisym(recorder, alloc, &same, truth)
 }
 
@@ -134,10 +122,7 @@ fn with_truth(
     let Some(side) = same_side(rest) else {
         return Ok(normal);
     };
-    let same = match truth_of(recorder, alloc, truth, side) {
-        Ok(same) => same,
-        Err(fault) => return Err(fault),
-    };
+    let same = truth_of(recorder, alloc, truth, side)?;
     trans(recorder, alloc, &normal, &same)
 }
 
@@ -153,10 +138,7 @@ fn chain_equation(
     requires { HasChainLaws recorder.old laws.now }
     ensures continues { Continues recorder.old recorder.new result }
 {
-    let normal = match normal_chain(recorder, alloc, laws, whole, chain) {
-        Ok(normal) => normal,
-        Err(fault) => return Err(fault),
-    };
+    let normal = normal_chain(recorder, alloc, laws, whole, chain)?;
     with_truth(recorder, alloc, &laws.truth, normal)
 }
 
@@ -179,10 +161,7 @@ pub fn normal_form(
         return reflexive(recorder, alloc, term);
     }
     if let Some((left, right)) = sides_with_chain(term) {
-        let left = match normal_form(recorder, alloc, laws, whole, left) {
-            Ok(left) => left,
-            Err(fault) => return Err(fault),
-        };
+        let left = normal_form(recorder, alloc, laws, whole, left)?;
         let right = normal_form(recorder, alloc, laws, whole, right);
         return joined(recorder, alloc, term, &left, right);
     }

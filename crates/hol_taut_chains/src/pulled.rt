@@ -38,10 +38,7 @@ pub(crate) fn law_at(
     requires { IsMade recorder.old law.now }
     ensures continues { Continues recorder.old recorder.new result }
 {
-    let terms = match for_p_q_r(alloc, p, q, r) {
-        Ok(terms) => terms,
-        Err(fault) => return Err(fault),
-    };
+    let terms = for_p_q_r(alloc, p, q, r)?;
     instance(recorder, alloc, &terms, law)
 }
 
@@ -84,18 +81,9 @@ fn carried(
     requires inner { IsMade recorder.old inner.now }
     ensures continues { Continues recorder.old recorder.new result }
 {
-    let function = match equal_to(alloc, left) {
-        Ok(function) => function,
-        Err(fault) => return Err(fault),
-    };
-    let beside = match under(recorder, alloc, &function, inner) {
-        Ok(beside) => beside,
-        Err(fault) => return Err(fault),
-    };
-    let exchanged = match exchanged(recorder, alloc, laws, left, inner) {
-        Ok(exchanged) => exchanged,
-        Err(fault) => return Err(fault),
-    };
+    let function = equal_to(alloc, left)?;
+    let beside = under(recorder, alloc, &function, inner)?;
+    let exchanged = exchanged(recorder, alloc, laws, left, inner)?;
     trans(recorder, alloc, &beside, &exchanged)
 }
 
@@ -113,14 +101,8 @@ fn turned(
     requires inner { IsMade recorder.old inner.now }
     ensures continues { Continues recorder.old recorder.new result }
 {
-    let turned = match law_at(recorder, alloc, &laws.commuted, left, right, right) {
-        Ok(turned) => turned,
-        Err(fault) => return Err(fault),
-    };
-    let carried = match carried(recorder, alloc, laws, right, inner) {
-        Ok(carried) => carried,
-        Err(fault) => return Err(fault),
-    };
+    let turned = law_at(recorder, alloc, &laws.commuted, left, right, right)?;
+    let carried = carried(recorder, alloc, laws, right, inner)?;
     trans(recorder, alloc, &turned, &carried)
 }
 
@@ -146,15 +128,9 @@ pub(crate) fn pulled(
         return law_at(recorder, alloc, &laws.commuted, left, right, right);
     }
     if is_part(part, right) {
-        let inner = match pulled(recorder, alloc, laws, part, right) {
-            Ok(inner) => inner,
-            Err(fault) => return Err(fault),
-        };
+        let inner = pulled(recorder, alloc, laws, part, right)?;
         return carried(recorder, alloc, laws, left, &inner);
     }
-    let inner = match pulled(recorder, alloc, laws, part, left) {
-        Ok(inner) => inner,
-        Err(fault) => return Err(fault),
-    };
+    let inner = pulled(recorder, alloc, laws, part, left)?;
     turned(recorder, alloc, laws, left, right, &inner)
 }

@@ -47,14 +47,8 @@ fn with_sorted(
     requires inner { IsMade recorder.old inner.now }
     ensures continues { Continues recorder.old recorder.new result }
 {
-    let function = match equal_to(alloc, part) {
-        Ok(function) => function,
-        Err(fault) => return Err(fault),
-    };
-    let beside = match under(recorder, alloc, &function, inner) {
-        Ok(beside) => beside,
-        Err(fault) => return Err(fault),
-    };
+    let function = equal_to(alloc, part)?;
+    let beside = under(recorder, alloc, &function, inner)?;
     trans(recorder, alloc, first, &beside)
 }
 
@@ -82,17 +76,11 @@ fn sorted(
     if most == 0 {
         return Err(Fault::BadShape);
     }
-    let first = match first_pulled(recorder, alloc, laws, whole, chain) {
-        Ok(first) => first,
-        Err(fault) => return Err(fault),
-    };
+    let first = first_pulled(recorder, alloc, laws, whole, chain)?;
     let Some((part, rest)) = front_and_rest(conclusion_of(recorder, &first)) else {
         return Err(Fault::BadShape);
     };
-    let inner = match sorted(recorder, alloc, laws, whole, rest, most - 1) {
-        Ok(inner) => inner,
-        Err(fault) => return Err(fault),
-    };
+    let inner = sorted(recorder, alloc, laws, whole, rest, most - 1)?;
     with_sorted(recorder, alloc, part, &first, &inner)
 }
 
@@ -112,10 +100,7 @@ fn sorted_behind(
     let Some((_, chain)) = sides_of(conclusion_of(recorder, shortest)) else {
         return Err(Fault::BadShape);
     };
-    let sorted = match sorted(recorder, alloc, laws, whole, chain, MOST_PARTS) {
-        Ok(sorted) => sorted,
-        Err(fault) => return Err(fault),
-    };
+    let sorted = sorted(recorder, alloc, laws, whole, chain, MOST_PARTS)?;
     trans(recorder, alloc, shortest, &sorted)
 }
 
@@ -134,9 +119,6 @@ pub(crate) fn normal_chain(
     let Some(part) = twofold(chain, chain) else {
         return sorted(recorder, alloc, laws, whole, chain, MOST_PARTS);
     };
-    let shortest = match without_pairs(recorder, alloc, laws, part, chain, MOST_PARTS) {
-        Ok(shortest) => shortest,
-        Err(fault) => return Err(fault),
-    };
+    let shortest = without_pairs(recorder, alloc, laws, part, chain, MOST_PARTS)?;
     sorted_behind(recorder, alloc, laws, whole, &shortest)
 }

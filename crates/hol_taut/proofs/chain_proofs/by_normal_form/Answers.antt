@@ -27,10 +27,10 @@ by_chain_laws-requires-clause-laws c =
 
 pub by_chain_laws-requires-clause-chain_laws : goal.by_chain_laws-requires-clause-chain_laws
 by_chain_laws-requires-clause-chain_laws c = record {
-  truth = subst (λ (made : Recorded). IsMade c.chain_law-3.new.recorder made) (sym c.in-Ok-copy.ensures.ok) c.law_theorem.ensures.made;
-  commuted = still_made c.chain_law-2.new.recorder c.chain_law-3.new.recorder c.chain_law-3.result c.in-Ok.law c.chain_law-3.ensures.continues
-      (still_made c.chain_law.new.recorder c.chain_law-2.new.recorder c.chain_law-2.result c.in-Ok.law c.chain_law-2.ensures.continues c.in-Ok.ensures.continues.held.made);
-  exchanged = still_made c.chain_law-2.new.recorder c.chain_law-3.new.recorder c.chain_law-3.result c.in-Ok-chain_law.law c.chain_law-3.ensures.continues
-      c.in-Ok-chain_law.ensures.continues.held.made;
-  paired = c.in-Ok-chain_law-2.ensures.continues.held.made;
+  truth = subst (λ (made : Recorded). IsMade c.chain_law-3.new.recorder made) (sym c.in_ok-truth.ensures.ok) c.law_theorem.ensures.made;
+  commuted = still_made c.chain_law-2.new.recorder c.chain_law-3.new.recorder c.chain_law-3.result c.in_ok-commuted.commuted c.chain_law-3.ensures.continues
+      (still_made c.chain_law.new.recorder c.chain_law-2.new.recorder c.chain_law-2.result c.in_ok-commuted.commuted c.chain_law-2.ensures.continues c.in_ok-commuted.ensures.continues.held.made);
+  exchanged = still_made c.chain_law-2.new.recorder c.chain_law-3.new.recorder c.chain_law-3.result c.in_ok-exchanged.exchanged c.chain_law-3.ensures.continues
+      c.in_ok-exchanged.ensures.continues.held.made;
+  paired = c.in_ok-paired.ensures.continues.held.made;
 }

@@ -14,10 +14,10 @@ chain_law-requires-3 c =
 pub without_negations-requires : goal.without_negations-requires
 without_negations-requires c = record {
   laws = record {
-    left = still_made c.chain_law-2.new.recorder c.chain_law-3.new.recorder c.chain_law-3.result c.in-Ok.law c.chain_law-3.ensures.continues
-        (still_made c.chain_law.new.recorder c.chain_law-2.new.recorder c.chain_law-2.result c.in-Ok.law c.chain_law-2.ensures.continues c.in-Ok.ensures.continues.held.made);
-    right = still_made c.chain_law-2.new.recorder c.chain_law-3.new.recorder c.chain_law-3.result c.in-Ok-chain_law.law c.chain_law-3.ensures.continues
-        c.in-Ok-chain_law.ensures.continues.held.made;
-    twice = c.in-Ok-chain_law-2.ensures.continues.held.made;
+    left = still_made c.chain_law-2.new.recorder c.chain_law-3.new.recorder c.chain_law-3.result c.in_ok-left.left c.chain_law-3.ensures.continues
+        (still_made c.chain_law.new.recorder c.chain_law-2.new.recorder c.chain_law-2.result c.in_ok-left.left c.chain_law-2.ensures.continues c.in_ok-left.ensures.continues.held.made);
+    right = still_made c.chain_law-2.new.recorder c.chain_law-3.new.recorder c.chain_law-3.result c.in_ok-right.right c.chain_law-3.ensures.continues
+        c.in_ok-right.ensures.continues.held.made;
+    twice = c.in_ok-twice.ensures.continues.held.made;
   };
 }

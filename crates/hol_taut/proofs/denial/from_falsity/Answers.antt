@@ -11,23 +11,28 @@ use Rattle.hol_taut.proofs.LawLemmas.{still_lawful}
 use Rattle.hol_taut.proofs.LeafLemmas.{false-known}
 use Rattle.hol_taut.proofs.WayLemmas.{falsity-fits}
 use Rattle.hol_taut.proofs.RefutedLemmas.{contradiction-leads, assumed-proves, memory-past}
+use Rattle.hol_equal.proofs.StepLemmas.{passed_on}
 use Rattle.hol_taut.proofs.denial.from_falsity.Goals as goal
 
-pub returns-in-Err-assume-clause-continues : goal.returns-in-Err-assume-clause-continues
-returns-in-Err-assume-clause-continues c = c.in-Err-assume.ensures.continues
+pub returns-in_err-assumed-clause-continues : goal.returns-in_err-assumed-clause-continues
+returns-in_err-assumed-clause-continues c =
+    rw (passed_on c.from_residual-in_err-assumed.result c.in_err-assumed.field-0.0 c.from_residual-in_err-assumed.ensures.1) (
+    c.in_err-assumed.ensures.continues)
 
-pub returns-in-Err-assume-clause-proves : goal.returns-in-Err-assume-clause-proves
-returns-in-Err-assume-clause-proves c = λ allowed room fits.
+pub returns-in_err-assumed-clause-proves : goal.returns-in_err-assumed-clause-proves
+returns-in_err-assumed-clause-proves c =
+    rw (passed_on c.from_residual-in_err-assumed.result c.in_err-assumed.field-0.0 c.from_residual-in_err-assumed.ensures.1) (
+    λ allowed room fits.
     let known = false-known c.args.recorder.now c.args.laws.now c.requires.laws c.theory_is_legal.ensures in
-    memory-past c.in-Err-assume.fault (nameless.false_term ∷ []) nameless.false_term room
-    (subst (λ (t : NamedTerm). IsKnown c.args.recorder.now.theory (image t) bool_type → Gives (Err c.in-Err-assume.fault) (image t ∷ []) (image t)) c.in-Ok.ensures.ok
-    c.in-Err-assume.ensures.gives known)
+    memory-past c.in_err-assumed.field-0.0 (nameless.false_term ∷ []) nameless.false_term room
+    (subst (λ (t : NamedTerm). IsKnown c.args.recorder.now.theory (image t) bool_type → Gives (Err c.in_err-assumed.field-0.0) (image t ∷ []) (image t)) c.in_ok-falsity.ensures.ok
+    c.in_err-assumed.ensures.gives known))
 
 pub by_one-requires-clause-laws : goal.by_one-requires-clause-laws
 by_one-requires-clause-laws c = still_lawful c.args.recorder.now c.assume.new.recorder c.assume.result c.args.laws.now c.assume.ensures.continues c.requires.laws
 
 pub by_one-requires-clause-premise : goal.by_one-requires-clause-premise
-by_one-requires-clause-premise c = c.in-Ok-assume.ensures.continues.held.made
+by_one-requires-clause-premise c = c.in_ok-assumed.ensures.continues.held.made
 
 pub returns-clause-continues : goal.returns-clause-continues
 returns-clause-continues c = continues-twice c.args.recorder.now c.assume.new.recorder c.by_one.new.recorder c.assume.result c.by_one.result c.assume.ensures.continues c.by_one.ensures.continues
@@ -39,6 +44,6 @@ returns-clause-proves c = λ allowed room fits.
     let later = c.assume.new.recorder.theory in
     c.by_one.ensures.proves (nameless.false_term ∷ allowed) nameless.false_term (image p) room
     (contradiction-leads later p room (still_formula c.args.recorder.now c.assume.new.recorder c.assume.result p c.assume.ensures.continues c.requires.formula) (falsity-fits room) fits)
-    (assumed-proves c.in-Ok-assume.assumed nameless.false_term allowed
-    (subst (λ (t : NamedTerm). IsKnown c.args.recorder.now.theory (image t) bool_type → Gives (Ok c.in-Ok-assume.assumed) (image t ∷ []) (image t)) c.in-Ok.ensures.ok
-    c.in-Ok-assume.ensures.gives known))
+    (assumed-proves c.in_ok-assumed.assumed nameless.false_term allowed
+    (subst (λ (t : NamedTerm). IsKnown c.args.recorder.now.theory (image t) bool_type → Gives (Ok c.in_ok-assumed.assumed) (image t ∷ []) (image t)) c.in_ok-falsity.ensures.ok
+    c.in_ok-assumed.ensures.gives known))

@@ -13,6 +13,7 @@ use Rattle.hol_taut.proofs.ShownLemmas.{still_held, still_all_held}
 use Rattle.hol_taut.proofs.WayLemmas.{fact-fits}
 use Rattle.hol_taut.proofs.RefutedLemmas.{assumed-proves, memory-past, proves-more, all-proved-more, value-true}
 use Rattle.hol_taut.proofs.NextLemmas.{told-further, no-atom-open}
+use Rattle.hol_equal.proofs.StepLemmas.{passed_on}
 use Rattle.hol_taut.proofs.refuted.+refuted.Goals as goal
 
 pub shown-requires-clause-laws : goal.shown-requires-clause-laws
@@ -31,13 +32,16 @@ pub shown-requires-clause-held : goal.shown-requires-clause-held
 shown-requires-clause-held t c =
     c.requires.held
 
-pub returns-in-Err-clause-continues : goal.returns-in-Err-clause-continues
-returns-in-Err-clause-continues t c =
-    c.in-Err.ensures.continues
+pub returns-in_err-holds-clause-continues : goal.returns-in_err-holds-clause-continues
+returns-in_err-holds-clause-continues t c =
+    rw (passed_on c.from_residual.result c.in_err-holds.field-0.0 c.from_residual.ensures.1) (
+    c.in_err-holds.ensures.continues)
 
-pub returns-in-Err-clause-proves : goal.returns-in-Err-clause-proves
-returns-in-Err-clause-proves t c = λ allowed room denial proved small smalls.
-    c.in-Err.ensures.shows allowed room proved small
+pub returns-in_err-holds-clause-proves : goal.returns-in_err-holds-clause-proves
+returns-in_err-holds-clause-proves t c =
+    rw (passed_on c.from_residual.result c.in_err-holds.field-0.0 c.from_residual.ensures.1) (
+    λ allowed room denial proved small smalls.
+    c.in_err-holds.ensures.shows allowed room proved small)
 
 pub by_equation-requires-clause-first : goal.by_equation-requires-clause-first
 by_equation-requires-clause-first t c =
@@ -45,7 +49,7 @@ by_equation-requires-clause-first t c =
 
 pub by_equation-requires-clause-second : goal.by_equation-requires-clause-second
 by_equation-requires-clause-second t c =
-    c.in-Ok.ensures.continues.held.made
+    c.in_ok-holds.ensures.continues.held.made
 
 pub returns-then-is_told_true-clause-continues : goal.returns-then-is_told_true-clause-continues
 returns-then-is_told_true-clause-continues t c =
@@ -53,7 +57,7 @@ returns-then-is_told_true-clause-continues t c =
 
 pub returns-then-is_told_true-clause-proves : goal.returns-then-is_told_true-clause-proves
 returns-then-is_told_true-clause-proves t c = λ allowed room denial proved small smalls.
-    c.by_equation.ensures.proves allowed (image c.args.term.now) nameless.false_term room denial (c.in-Ok.ensures.shows allowed room proved small)
+    c.by_equation.ensures.proves allowed (image c.args.term.now) nameless.false_term room denial (c.in_ok-holds.ensures.shows allowed room proved small)
 
 pub unreachable-requires : goal.unreachable-requires
 unreachable-requires t c =
@@ -65,14 +69,17 @@ unreachable-unreachable t c =
     no-atom-open c.args.facts.now c.args.atoms.now (proposition c.args.term.now) c.is_told_true.result c.in_default.ensures c.requires.always c.requires.told
     c.is_told_true.ensures c.if-is_told_true.false
 
-pub returns-in-Err-assume-clause-continues : goal.returns-in-Err-assume-clause-continues
-returns-in-Err-assume-clause-continues t c =
-    c.in-Err-assume.ensures.continues
+pub returns-in_err-assumed-clause-continues : goal.returns-in_err-assumed-clause-continues
+returns-in_err-assumed-clause-continues t c =
+    rw (passed_on c.from_residual-in_err-assumed.result c.in_err-assumed.field-0.0 c.from_residual-in_err-assumed.ensures.1) (
+    c.in_err-assumed.ensures.continues)
 
-pub returns-in-Err-assume-clause-proves : goal.returns-in-Err-assume-clause-proves
-returns-in-Err-assume-clause-proves t c = λ allowed room denial proved small smalls.
-    memory-past c.in-Err-assume.fault (image c.in-Some.atom.now ∷ []) (image c.in-Some.atom.now) room
-    (c.in-Err-assume.ensures.gives (c.requires.atoms.each c.in-Some.atom.now c.in-Some.ensures.listed).known)
+pub returns-in_err-assumed-clause-proves : goal.returns-in_err-assumed-clause-proves
+returns-in_err-assumed-clause-proves t c =
+    rw (passed_on c.from_residual-in_err-assumed.result c.in_err-assumed.field-0.0 c.from_residual-in_err-assumed.ensures.1) (
+    λ allowed room denial proved small smalls.
+    memory-past c.in_err-assumed.field-0.0 (image c.in-Some.atom.now ∷ []) (image c.in-Some.atom.now) room
+    (c.in_err-assumed.ensures.gives (c.requires.atoms.each c.in-Some.atom.now c.in-Some.ensures.listed).known))
 
 pub refuted-requires : goal.refuted-requires
 refuted-requires t c =
@@ -82,20 +89,23 @@ refuted-requires t c =
     c.requires.always
     (still_held c.args.recorder.now c.assume.new.recorder c.assume.result c.args.denied.now c.assume.ensures.continues c.requires.denied)
     (subst (λ (y : Theory). AreAllFormulas y c.args.atoms.now) (sym c.assume.ensures.continues.theory) c.requires.atoms)
-    (c.in-Ok-assume.ensures.continues.held, still_all_held c.args.recorder.now c.assume.new.recorder c.assume.result c.args.facts.now c.assume.ensures.continues c.requires.held)
+    (c.in_ok-assumed.ensures.continues.held, still_all_held c.args.recorder.now c.assume.new.recorder c.assume.result c.args.facts.now c.assume.ensures.continues c.requires.held)
 
-pub returns-in-Err-refuted-clause-continues : goal.returns-in-Err-refuted-clause-continues
-returns-in-Err-refuted-clause-continues t c =
-    continues-twice c.args.recorder.now c.assume.new.recorder c.refuted.new.recorder c.assume.result (Err c.in-Err-refuted.fault) c.assume.ensures.continues c.in-Err-refuted.ensures.continues
+pub returns-in_err-absurd-clause-continues : goal.returns-in_err-absurd-clause-continues
+returns-in_err-absurd-clause-continues t c =
+    rw (passed_on c.from_residual-in_err-absurd.result c.in_err-absurd.field-0.0 c.from_residual-in_err-absurd.ensures.1) (
+    continues-twice c.args.recorder.now c.assume.new.recorder c.refuted.new.recorder c.assume.result (Err c.in_err-absurd.field-0.0) c.assume.ensures.continues c.in_err-absurd.ensures.continues)
 
-pub returns-in-Err-refuted-clause-proves : goal.returns-in-Err-refuted-clause-proves
-returns-in-Err-refuted-clause-proves t c = λ allowed room denial proved small smalls.
-    c.in-Err-refuted.ensures.proves (image c.in-Some.atom.now ∷ allowed) room (proves-more c.args.denied.now.theorem (image c.in-Some.atom.now) allowed (fact false (image c.args.term.now)) denial) (
-      (assumed-proves c.in-Ok-assume.assumed (image c.in-Some.atom.now) allowed
-          (c.in-Ok-assume.ensures.gives (c.requires.atoms.each c.in-Some.atom.now c.in-Some.ensures.listed).known)),
+pub returns-in_err-absurd-clause-proves : goal.returns-in_err-absurd-clause-proves
+returns-in_err-absurd-clause-proves t c =
+    rw (passed_on c.from_residual-in_err-absurd.result c.in_err-absurd.field-0.0 c.from_residual-in_err-absurd.ensures.1) (
+    λ allowed room denial proved small smalls.
+    c.in_err-absurd.ensures.proves (image c.in-Some.atom.now ∷ allowed) room (proves-more c.args.denied.now.theorem (image c.in-Some.atom.now) allowed (fact false (image c.args.term.now)) denial) (
+      (assumed-proves c.in_ok-assumed.assumed (image c.in-Some.atom.now) allowed
+          (c.in_ok-assumed.ensures.gives (c.requires.atoms.each c.in-Some.atom.now c.in-Some.ensures.listed).known)),
       all-proved-more c.args.facts.now
           (image c.in-Some.atom.now) allowed proved,
-    ) small smalls
+    ) small smalls)
 
 pub denied_by-requires-clause-laws : goal.denied_by-requires-clause-laws
 denied_by-requires-clause-laws t c =
@@ -110,25 +120,28 @@ denied_by-requires-clause-formula t c =
 
 pub denied_by-requires-clause-absurd : goal.denied_by-requires-clause-absurd
 denied_by-requires-clause-absurd t c =
-    c.in-Ok-refuted.ensures.continues.held
+    c.in_ok-absurd.ensures.continues.held
 
-pub returns-in-Err-denied_by-clause-continues : goal.returns-in-Err-denied_by-clause-continues
-returns-in-Err-denied_by-clause-continues t c =
-    continues-twice c.args.recorder.now c.refuted.new.recorder c.denied_by.new.recorder c.refuted.result (Err c.in-Err-denied_by.fault)
+pub returns-in_err-fact-clause-continues : goal.returns-in_err-fact-clause-continues
+returns-in_err-fact-clause-continues t c =
+    rw (passed_on c.from_residual-in_err-fact.result c.in_err-fact.field-0.0 c.from_residual-in_err-fact.ensures.1) (
+    continues-twice c.args.recorder.now c.refuted.new.recorder c.denied_by.new.recorder c.refuted.result (Err c.in_err-fact.field-0.0)
     (continues-twice c.args.recorder.now c.assume.new.recorder c.refuted.new.recorder c.assume.result c.refuted.result c.assume.ensures.continues c.refuted.ensures.continues)
-    c.in-Err-denied_by.ensures.continues
+    c.in_err-fact.ensures.continues)
 
-pub returns-in-Err-denied_by-clause-proves : goal.returns-in-Err-denied_by-clause-proves
-returns-in-Err-denied_by-clause-proves t c = λ allowed room denial proved small smalls.
-    c.in-Err-denied_by.ensures.proves allowed room (fact-fits true room (image c.in-Some.atom.now)
+pub returns-in_err-fact-clause-proves : goal.returns-in_err-fact-clause-proves
+returns-in_err-fact-clause-proves t c =
+    rw (passed_on c.from_residual-in_err-fact.result c.in_err-fact.field-0.0 c.from_residual-in_err-fact.ensures.1) (
+    λ allowed room denial proved small smalls.
+    c.in_err-fact.ensures.proves allowed room (fact-fits true room (image c.in-Some.atom.now)
     (smalls.each c.in-Some.atom.now c.in-Some.ensures.listed))
     (fact-fits false room (image c.in-Some.atom.now) (smalls.each c.in-Some.atom.now c.in-Some.ensures.listed))
-    (c.in-Ok-refuted.ensures.proves (image c.in-Some.atom.now ∷ allowed) room (proves-more c.args.denied.now.theorem (image c.in-Some.atom.now) allowed (fact false (image c.args.term.now)) denial) (
-      (assumed-proves c.in-Ok-assume.assumed (image c.in-Some.atom.now) allowed
-          (c.in-Ok-assume.ensures.gives (c.requires.atoms.each c.in-Some.atom.now c.in-Some.ensures.listed).known)),
+    (c.in_ok-absurd.ensures.proves (image c.in-Some.atom.now ∷ allowed) room (proves-more c.args.denied.now.theorem (image c.in-Some.atom.now) allowed (fact false (image c.args.term.now)) denial) (
+      (assumed-proves c.in_ok-assumed.assumed (image c.in-Some.atom.now) allowed
+          (c.in_ok-assumed.ensures.gives (c.requires.atoms.each c.in-Some.atom.now c.in-Some.ensures.listed).known)),
       all-proved-more c.args.facts.now
           (image c.in-Some.atom.now) allowed proved,
-    ) small smalls)
+    ) small smalls))
 
 pub refuted-requires-2 : goal.refuted-requires-2
 refuted-requires-2 t c =
@@ -142,7 +155,7 @@ refuted-requires-2 t c =
     c.requires.always
     (still_held c.args.recorder.now c.denied_by.new.recorder c.denied_by.result c.args.denied.now continues c.requires.denied)
     (subst (λ (y : Theory). AreAllFormulas y c.args.atoms.now) (sym continues.theory) c.requires.atoms)
-    (c.in-Ok-denied_by.ensures.continues.held, still_all_held c.args.recorder.now c.denied_by.new.recorder c.denied_by.result c.args.facts.now continues c.requires.held)
+    (c.in_ok-fact.ensures.continues.held, still_all_held c.args.recorder.now c.denied_by.new.recorder c.denied_by.result c.args.facts.now continues c.requires.held)
 
 pub returns-clause-continues : goal.returns-clause-continues
 returns-clause-continues t c =
@@ -154,13 +167,13 @@ returns-clause-continues t c =
 pub returns-clause-proves : goal.returns-clause-proves
 returns-clause-proves t c = λ allowed room denial proved small smalls.
     c.refuted-2.ensures.proves allowed room denial (
-      c.in-Ok-denied_by.ensures.proves allowed room (fact-fits true room (image c.in-Some.atom.now)
+      c.in_ok-fact.ensures.proves allowed room (fact-fits true room (image c.in-Some.atom.now)
           (smalls.each c.in-Some.atom.now c.in-Some.ensures.listed))
           (fact-fits false room (image c.in-Some.atom.now) (smalls.each c.in-Some.atom.now c.in-Some.ensures.listed))
-          (c.in-Ok-refuted.ensures.proves (image c.in-Some.atom.now ∷ allowed) room
+          (c.in_ok-absurd.ensures.proves (image c.in-Some.atom.now ∷ allowed) room
           (proves-more c.args.denied.now.theorem (image c.in-Some.atom.now) allowed (fact false (image c.args.term.now)) denial) (
-            (assumed-proves c.in-Ok-assume.assumed (image c.in-Some.atom.now) allowed
-                (c.in-Ok-assume.ensures.gives (c.requires.atoms.each c.in-Some.atom.now c.in-Some.ensures.listed).known)),
+            (assumed-proves c.in_ok-assumed.assumed (image c.in-Some.atom.now) allowed
+                (c.in_ok-assumed.ensures.gives (c.requires.atoms.each c.in-Some.atom.now c.in-Some.ensures.listed).known)),
             all-proved-more c.args.facts.now
                 (image c.in-Some.atom.now) allowed proved,
           ) small

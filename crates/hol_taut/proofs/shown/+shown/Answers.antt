@@ -7,6 +7,7 @@ use Rattle.hol_taut.proofs.ShownLemmas.{is-known, still_held, still_all_held}
 use Rattle.hol_taut.proofs.ShownSteps.{taken, lower-first, first-formula, first-side-known, first-side-small, first-gives, first-only, lower-second, second-formula}
 use Rattle.hol_taut.proofs.ShownSteps.{second-side-known, second-side-small, second-gives, lower-part, negated-formula, negated-known, negated-small, negated-gives, atom-shown, constant-shown}
 use Rattle.hol_taut_formulas.specs.Forms.{meant}
+use Rattle.hol_equal.proofs.StepLemmas.{passed_on}
 use Rattle.hol_taut.proofs.shown.+shown.Goals as goal
 
 pub from_fact-requires-clause-known : goal.from_fact-requires-clause-known
@@ -33,13 +34,16 @@ shown-requires t c = (
   ),
 )
 
-pub returns-in-Err-clause-continues : goal.returns-in-Err-clause-continues
-returns-in-Err-clause-continues t c =
-    c.in-Err.ensures.continues
+pub returns-in_err-opposite-in-Negated-clause-continues : goal.returns-in_err-opposite-in-Negated-clause-continues
+returns-in_err-opposite-in-Negated-clause-continues t c =
+    rw (passed_on c.from_residual.result c.in_err-opposite-in-Negated.field-0.0 c.from_residual.ensures.1) (
+    c.in_err-opposite-in-Negated.ensures.continues)
 
-pub returns-in-Err-clause-shows : goal.returns-in-Err-clause-shows
-returns-in-Err-clause-shows t c = λ allowed room proved small.
-    c.in-Err.ensures.shows allowed room proved (negated-small c.args.term.now c.in-Negated.part.now room c.in-Negated.ensures.whole small)
+pub returns-in_err-opposite-in-Negated-clause-shows : goal.returns-in_err-opposite-in-Negated-clause-shows
+returns-in_err-opposite-in-Negated-clause-shows t c =
+    rw (passed_on c.from_residual.result c.in_err-opposite-in-Negated.field-0.0 c.from_residual.ensures.1) (
+    λ allowed room proved small.
+    c.in_err-opposite-in-Negated.ensures.shows allowed room proved (negated-small c.args.term.now c.in-Negated.part.now room c.in-Negated.ensures.whole small))
 
 pub denial-requires-clause-laws : goal.denial-requires-clause-laws
 denial-requires-clause-laws t c =
@@ -52,7 +56,7 @@ denial-requires-clause-formula t c =
 
 pub denial-requires-clause-premise : goal.denial-requires-clause-premise
 denial-requires-clause-premise t c =
-    c.in-Ok.ensures.continues.held
+    c.in_ok-opposite-in-Negated.ensures.continues.held
 
 pub shown-requires-in-Connected : goal.shown-requires-in-Connected
 shown-requires-in-Connected t c =
@@ -74,17 +78,20 @@ shown-requires-in-Connected t c =
       ),
     )
 
-pub returns-in-Err-shown-clause-continues : goal.returns-in-Err-shown-clause-continues
-returns-in-Err-shown-clause-continues t c =
-    c.in-Err-shown.ensures.continues
+pub returns-in_err-premise-in-Connected-clause-continues : goal.returns-in_err-premise-in-Connected-clause-continues
+returns-in_err-premise-in-Connected-clause-continues t c =
+    rw (passed_on c.from_residual-in_err-premise-in-Connected.result c.in_err-premise-in-Connected.field-0.0 c.from_residual-in_err-premise-in-Connected.ensures.1) (
+    c.in_err-premise-in-Connected.ensures.continues)
 
-pub returns-in-Err-shown-clause-shows : goal.returns-in-Err-shown-clause-shows
-returns-in-Err-shown-clause-shows t c = λ allowed room proved small.
+pub returns-in_err-premise-in-Connected-clause-shows : goal.returns-in_err-premise-in-Connected-clause-shows
+returns-in_err-premise-in-Connected-clause-shows t c =
+    rw (passed_on c.from_residual-in_err-premise-in-Connected.result c.in_err-premise-in-Connected.field-0.0 c.from_residual-in_err-premise-in-Connected.ensures.1) (
+    λ allowed room proved small.
     let is_taken = taken c.args.recorder.now.theory c.args.facts.now c.args.term.now c.in-Connected.left.now c.in-Connected.right.now (meant c.in-Connected.connective) c.args.value
     c.way_to-way.result c.known_value-left_value.result c.known_value-right_value.result
     c.requires.formula c.requires.known c.in-Connected.ensures.meaning c.in-Connected.ensures.whole c.known_value-left_value.ensures c.known_value-right_value.ensures c.way_to-way.ensures in
-    c.in-Err-shown.ensures.shows allowed room proved (first-side-small c.args.recorder.now.theory c.args.facts.now c.args.term.now c.in-Connected.left.now c.in-Connected.right.now
-    (meant c.in-Connected.connective) c.args.value c.way_to-way.result c.first_side-side.result.now room is_taken c.first_side-side.ensures small)
+    c.in_err-premise-in-Connected.ensures.shows allowed room proved (first-side-small c.args.recorder.now.theory c.args.facts.now c.args.term.now c.in-Connected.left.now c.in-Connected.right.now
+    (meant c.in-Connected.connective) c.args.value c.way_to-way.result c.first_side-side.result.now room is_taken c.first_side-side.ensures small))
 
 pub by_first-requires-clause-laws : goal.by_first-requires-clause-laws
 by_first-requires-clause-laws t c =
@@ -92,29 +99,32 @@ by_first-requires-clause-laws t c =
 
 pub by_first-requires-clause-premise : goal.by_first-requires-clause-premise
 by_first-requires-clause-premise t c =
-    c.in-Ok-shown.ensures.continues.held
+    c.in_ok-premise-in-Connected.ensures.continues.held
 
-pub returns-in-Err-by_first-clause-continues : goal.returns-in-Err-by_first-clause-continues
-returns-in-Err-by_first-clause-continues t c =
-    continues-twice c.args.recorder.now c.shown-in-Connected.new.recorder c.by_first.new.recorder c.shown-in-Connected.result (Err c.in-Err-by_first.fault)
-    c.shown-in-Connected.ensures.continues c.in-Err-by_first.ensures.continues
+pub returns-in_err-first-in-Connected-clause-continues : goal.returns-in_err-first-in-Connected-clause-continues
+returns-in_err-first-in-Connected-clause-continues t c =
+    rw (passed_on c.from_residual-in_err-first-in-Connected.result c.in_err-first-in-Connected.field-0.0 c.from_residual-in_err-first-in-Connected.ensures.1) (
+    continues-twice c.args.recorder.now c.shown-in-Connected.new.recorder c.by_first.new.recorder c.shown-in-Connected.result (Err c.in_err-first-in-Connected.field-0.0)
+    c.shown-in-Connected.ensures.continues c.in_err-first-in-Connected.ensures.continues)
 
-pub returns-in-Err-by_first-clause-shows : goal.returns-in-Err-by_first-clause-shows
-returns-in-Err-by_first-clause-shows t c = λ allowed room proved small.
+pub returns-in_err-first-in-Connected-clause-shows : goal.returns-in_err-first-in-Connected-clause-shows
+returns-in_err-first-in-Connected-clause-shows t c =
+    rw (passed_on c.from_residual-in_err-first-in-Connected.result c.in_err-first-in-Connected.field-0.0 c.from_residual-in_err-first-in-Connected.ensures.1) (
+    λ allowed room proved small.
     let is_taken = taken c.args.recorder.now.theory c.args.facts.now c.args.term.now c.in-Connected.left.now c.in-Connected.right.now (meant c.in-Connected.connective) c.args.value
     c.way_to-way.result c.known_value-left_value.result c.known_value-right_value.result
     c.requires.formula c.requires.known c.in-Connected.ensures.meaning c.in-Connected.ensures.whole c.known_value-left_value.ensures c.known_value-right_value.ensures c.way_to-way.ensures in
     first-gives c.args.recorder.now.theory c.shown-in-Connected.new.recorder.theory c.args.facts.now c.args.term.now c.in-Connected.left.now c.in-Connected.right.now
     (meant c.in-Connected.connective) c.args.value c.way_to-way.result c.first_side-side.result.now c.first_value.result c.law_of.result room
-    is_taken c.shown-in-Connected.ensures.continues.theory c.first_side-side.ensures c.first_value.ensures c.law_of.ensures small (Err c.in-Err-by_first.fault) c.in-Ok-shown.premise.theorem allowed
-    (c.in-Ok-shown.ensures.shows allowed room proved (first-side-small c.args.recorder.now.theory c.args.facts.now c.args.term.now c.in-Connected.left.now c.in-Connected.right.now
+    is_taken c.shown-in-Connected.ensures.continues.theory c.first_side-side.ensures c.first_value.ensures c.law_of.ensures small (Err c.in_err-first-in-Connected.field-0.0) c.in_ok-premise-in-Connected.premise.theorem allowed
+    (c.in_ok-premise-in-Connected.ensures.shows allowed room proved (first-side-small c.args.recorder.now.theory c.args.facts.now c.args.term.now c.in-Connected.left.now c.in-Connected.right.now
     (meant c.in-Connected.connective) c.args.value c.way_to-way.result c.first_side-side.result.now room is_taken c.first_side-side.ensures small))
-    (λ from to. c.in-Err-by_first.ensures.proves allowed room from to)
+    (λ from to. c.in_err-first-in-Connected.ensures.proves allowed room from to))
 
 pub returns-then-not-takes_second-clause-continues : goal.returns-then-not-takes_second-clause-continues
 returns-then-not-takes_second-clause-continues t c =
-    continues-twice c.args.recorder.now c.shown-in-Connected.new.recorder c.by_first.new.recorder c.shown-in-Connected.result (Ok c.in-Ok-by_first.first)
-    c.shown-in-Connected.ensures.continues c.in-Ok-by_first.ensures.continues
+    continues-twice c.args.recorder.now c.shown-in-Connected.new.recorder c.by_first.new.recorder c.shown-in-Connected.result (Ok c.in_ok-first-in-Connected.first)
+    c.shown-in-Connected.ensures.continues c.in_ok-first-in-Connected.ensures.continues
 
 pub returns-then-not-takes_second-clause-shows : goal.returns-then-not-takes_second-clause-shows
 returns-then-not-takes_second-clause-shows t c = λ allowed room proved small.
@@ -122,13 +132,13 @@ returns-then-not-takes_second-clause-shows t c = λ allowed room proved small.
     c.way_to-way.result c.known_value-left_value.result c.known_value-right_value.result
     c.requires.formula c.requires.known c.in-Connected.ensures.meaning c.in-Connected.ensures.whole c.known_value-left_value.ensures c.known_value-right_value.ensures c.way_to-way.ensures in
     first-only c.args.recorder.now.theory c.args.facts.now c.args.term.now c.in-Connected.left.now c.in-Connected.right.now (meant c.in-Connected.connective) c.args.value
-    c.way_to-way.result c.in-Ok-by_first.first.theorem allowed is_taken (sym c.takes_second.ensures ∙ c.if-not-takes_second.true)
+    c.way_to-way.result c.in_ok-first-in-Connected.first.theorem allowed is_taken (sym c.takes_second.ensures ∙ c.if-not-takes_second.true)
     (first-gives c.args.recorder.now.theory c.shown-in-Connected.new.recorder.theory c.args.facts.now c.args.term.now c.in-Connected.left.now c.in-Connected.right.now
     (meant c.in-Connected.connective) c.args.value c.way_to-way.result c.first_side-side.result.now c.first_value.result c.law_of.result room
-    is_taken c.shown-in-Connected.ensures.continues.theory c.first_side-side.ensures c.first_value.ensures c.law_of.ensures small (Ok c.in-Ok-by_first.first) c.in-Ok-shown.premise.theorem allowed
-    (c.in-Ok-shown.ensures.shows allowed room proved (first-side-small c.args.recorder.now.theory c.args.facts.now c.args.term.now c.in-Connected.left.now c.in-Connected.right.now
+    is_taken c.shown-in-Connected.ensures.continues.theory c.first_side-side.ensures c.first_value.ensures c.law_of.ensures small (Ok c.in_ok-first-in-Connected.first) c.in_ok-premise-in-Connected.premise.theorem allowed
+    (c.in_ok-premise-in-Connected.ensures.shows allowed room proved (first-side-small c.args.recorder.now.theory c.args.facts.now c.args.term.now c.in-Connected.left.now c.in-Connected.right.now
     (meant c.in-Connected.connective) c.args.value c.way_to-way.result c.first_side-side.result.now room is_taken c.first_side-side.ensures small))
-    (λ from to. c.in-Ok-by_first.ensures.proves allowed room from to))
+    (λ from to. c.in_ok-first-in-Connected.ensures.proves allowed room from to))
 
 pub shown-requires-in-Connected-2 : goal.shown-requires-in-Connected-2
 shown-requires-in-Connected-2 t c =
@@ -159,19 +169,22 @@ shown-requires-in-Connected-2 t c =
       ),
     )
 
-pub returns-in-Err-shown-2-clause-continues : goal.returns-in-Err-shown-2-clause-continues
-returns-in-Err-shown-2-clause-continues t c =
-    continues-twice c.args.recorder.now c.by_first.new.recorder c.shown-in-Connected-2.new.recorder c.by_first.result (Err c.in-Err-shown-2.fault)
+pub returns-in_err-second-in-Connected-clause-continues : goal.returns-in_err-second-in-Connected-clause-continues
+returns-in_err-second-in-Connected-clause-continues t c =
+    rw (passed_on c.from_residual-in_err-second-in-Connected.result c.in_err-second-in-Connected.field-0.0 c.from_residual-in_err-second-in-Connected.ensures.1) (
+    continues-twice c.args.recorder.now c.by_first.new.recorder c.shown-in-Connected-2.new.recorder c.by_first.result (Err c.in_err-second-in-Connected.field-0.0)
     (continues-twice c.args.recorder.now c.shown-in-Connected.new.recorder c.by_first.new.recorder c.shown-in-Connected.result c.by_first.result
-    c.shown-in-Connected.ensures.continues c.by_first.ensures.continues) c.in-Err-shown-2.ensures.continues
+    c.shown-in-Connected.ensures.continues c.by_first.ensures.continues) c.in_err-second-in-Connected.ensures.continues)
 
-pub returns-in-Err-shown-2-clause-shows : goal.returns-in-Err-shown-2-clause-shows
-returns-in-Err-shown-2-clause-shows t c = λ allowed room proved small.
+pub returns-in_err-second-in-Connected-clause-shows : goal.returns-in_err-second-in-Connected-clause-shows
+returns-in_err-second-in-Connected-clause-shows t c =
+    rw (passed_on c.from_residual-in_err-second-in-Connected.result c.in_err-second-in-Connected.field-0.0 c.from_residual-in_err-second-in-Connected.ensures.1) (
+    λ allowed room proved small.
     let is_taken = taken c.args.recorder.now.theory c.args.facts.now c.args.term.now c.in-Connected.left.now c.in-Connected.right.now (meant c.in-Connected.connective) c.args.value
     c.way_to-way.result c.known_value-left_value.result c.known_value-right_value.result
     c.requires.formula c.requires.known c.in-Connected.ensures.meaning c.in-Connected.ensures.whole c.known_value-left_value.ensures c.known_value-right_value.ensures c.way_to-way.ensures in
-    c.in-Err-shown-2.ensures.shows allowed room proved (second-side-small c.args.recorder.now.theory c.args.facts.now c.args.term.now c.in-Connected.left.now c.in-Connected.right.now
-    (meant c.in-Connected.connective) c.args.value c.way_to-way.result c.second_side-other.result.now room is_taken c.second_side-other.ensures small)
+    c.in_err-second-in-Connected.ensures.shows allowed room proved (second-side-small c.args.recorder.now.theory c.args.facts.now c.args.term.now c.in-Connected.left.now c.in-Connected.right.now
+    (meant c.in-Connected.connective) c.args.value c.way_to-way.result c.second_side-other.result.now room is_taken c.second_side-other.ensures small))
 
 pub with_second-requires-clause-takes : goal.with_second-requires-clause-takes
 with_second-requires-clause-takes t c =
@@ -179,12 +192,12 @@ with_second-requires-clause-takes t c =
 
 pub with_second-requires-clause-first : goal.with_second-requires-clause-first
 with_second-requires-clause-first t c =
-    still_held c.by_first.new.recorder c.shown-in-Connected-2.new.recorder c.shown-in-Connected-2.result c.in-Ok-by_first.first c.shown-in-Connected-2.ensures.continues
-    c.in-Ok-by_first.ensures.continues.held
+    still_held c.by_first.new.recorder c.shown-in-Connected-2.new.recorder c.shown-in-Connected-2.result c.in_ok-first-in-Connected.first c.shown-in-Connected-2.ensures.continues
+    c.in_ok-first-in-Connected.ensures.continues.held
 
 pub with_second-requires-clause-second : goal.with_second-requires-clause-second
 with_second-requires-clause-second t c =
-    c.in-Ok-shown-2.ensures.continues.held
+    c.in_ok-second-in-Connected.ensures.continues.held
 
 pub returns-in-Atom-clause-continues : goal.returns-in-Atom-clause-continues
 returns-in-Atom-clause-continues t c =
@@ -206,36 +219,36 @@ returns-in-Constantly-clause-shows t c = λ allowed room proved small.
     constant-shown c.constantly.result c.args.term.now c.in-Constantly.field-0 c.args.value room allowed c.in-Constantly.ensures.whole c.requires.formula.typed same
     (c.constantly.ensures.proves allowed room)
 
-pub returns-in-Ok-clause-continues : goal.returns-in-Ok-clause-continues
-returns-in-Ok-clause-continues t c =
+pub returns-in_ok-opposite-in-Negated-clause-continues : goal.returns-in_ok-opposite-in-Negated-clause-continues
+returns-in_ok-opposite-in-Negated-clause-continues t c =
     continues-twice c.args.recorder.now c.shown.new.recorder c.denial.new.recorder c.shown.result c.denial.result c.shown.ensures.continues c.denial.ensures.continues
 
-pub returns-in-Ok-clause-shows : goal.returns-in-Ok-clause-shows
-returns-in-Ok-clause-shows t c = λ allowed room proved small.
+pub returns-in_ok-opposite-in-Negated-clause-shows : goal.returns-in_ok-opposite-in-Negated-clause-shows
+returns-in_ok-opposite-in-Negated-clause-shows t c = λ allowed room proved small.
     negated-gives c.args.term.now c.in-Negated.part.now c.args.value room c.in-Negated.ensures.whole small c.denial.result allowed
-    (λ whole. c.denial.ensures.proves allowed room whole (c.in-Ok.ensures.shows allowed room proved (negated-small c.args.term.now c.in-Negated.part.now room c.in-Negated.ensures.whole small)))
+    (λ whole. c.denial.ensures.proves allowed room whole (c.in_ok-opposite-in-Negated.ensures.shows allowed room proved (negated-small c.args.term.now c.in-Negated.part.now room c.in-Negated.ensures.whole small)))
 
-pub returns-in-Ok-shown-2-clause-continues : goal.returns-in-Ok-shown-2-clause-continues
-returns-in-Ok-shown-2-clause-continues t c =
+pub returns-in_ok-second-in-Connected-clause-continues : goal.returns-in_ok-second-in-Connected-clause-continues
+returns-in_ok-second-in-Connected-clause-continues t c =
     continues-twice c.args.recorder.now c.shown-in-Connected-2.new.recorder c.with_second.new.recorder c.shown-in-Connected-2.result c.with_second.result
     (continues-twice c.args.recorder.now c.by_first.new.recorder c.shown-in-Connected-2.new.recorder c.by_first.result c.shown-in-Connected-2.result
     (continues-twice c.args.recorder.now c.shown-in-Connected.new.recorder c.by_first.new.recorder c.shown-in-Connected.result c.by_first.result
     c.shown-in-Connected.ensures.continues c.by_first.ensures.continues) c.shown-in-Connected-2.ensures.continues) c.with_second.ensures.continues
 
-pub returns-in-Ok-shown-2-clause-shows : goal.returns-in-Ok-shown-2-clause-shows
-returns-in-Ok-shown-2-clause-shows t c = λ allowed room proved small.
+pub returns-in_ok-second-in-Connected-clause-shows : goal.returns-in_ok-second-in-Connected-clause-shows
+returns-in_ok-second-in-Connected-clause-shows t c = λ allowed room proved small.
     let is_taken = taken c.args.recorder.now.theory c.args.facts.now c.args.term.now c.in-Connected.left.now c.in-Connected.right.now (meant c.in-Connected.connective) c.args.value
     c.way_to-way.result c.known_value-left_value.result c.known_value-right_value.result
     c.requires.formula c.requires.known c.in-Connected.ensures.meaning c.in-Connected.ensures.whole c.known_value-left_value.ensures c.known_value-right_value.ensures c.way_to-way.ensures in
     second-gives c.args.recorder.now.theory c.args.facts.now c.args.term.now c.in-Connected.left.now c.in-Connected.right.now (meant c.in-Connected.connective) c.args.value
     c.way_to-way.result c.second_side-other.result.now c.second_value.result room is_taken (sym c.takes_second.ensures ∙ c.if-not-takes_second.false) c.second_side-other.ensures
-    c.second_value.ensures small c.with_second.result c.in-Ok-by_first.first.theorem c.in-Ok-shown-2.second.theorem allowed
+    c.second_value.ensures small c.with_second.result c.in_ok-first-in-Connected.first.theorem c.in_ok-second-in-Connected.second.theorem allowed
     (first-gives c.args.recorder.now.theory c.shown-in-Connected.new.recorder.theory c.args.facts.now c.args.term.now c.in-Connected.left.now c.in-Connected.right.now
     (meant c.in-Connected.connective) c.args.value c.way_to-way.result c.first_side-side.result.now c.first_value.result c.law_of.result room
-    is_taken c.shown-in-Connected.ensures.continues.theory c.first_side-side.ensures c.first_value.ensures c.law_of.ensures small (Ok c.in-Ok-by_first.first) c.in-Ok-shown.premise.theorem allowed
-    (c.in-Ok-shown.ensures.shows allowed room proved (first-side-small c.args.recorder.now.theory c.args.facts.now c.args.term.now c.in-Connected.left.now c.in-Connected.right.now
+    is_taken c.shown-in-Connected.ensures.continues.theory c.first_side-side.ensures c.first_value.ensures c.law_of.ensures small (Ok c.in_ok-first-in-Connected.first) c.in_ok-premise-in-Connected.premise.theorem allowed
+    (c.in_ok-premise-in-Connected.ensures.shows allowed room proved (first-side-small c.args.recorder.now.theory c.args.facts.now c.args.term.now c.in-Connected.left.now c.in-Connected.right.now
     (meant c.in-Connected.connective) c.args.value c.way_to-way.result c.first_side-side.result.now room is_taken c.first_side-side.ensures small))
-    (λ from to. c.in-Ok-by_first.ensures.proves allowed room from to))
-    (c.in-Ok-shown-2.ensures.shows allowed room proved (second-side-small c.args.recorder.now.theory c.args.facts.now c.args.term.now c.in-Connected.left.now c.in-Connected.right.now
+    (λ from to. c.in_ok-first-in-Connected.ensures.proves allowed room from to))
+    (c.in_ok-second-in-Connected.ensures.shows allowed room proved (second-side-small c.args.recorder.now.theory c.args.facts.now c.args.term.now c.in-Connected.left.now c.in-Connected.right.now
     (meant c.in-Connected.connective) c.args.value c.way_to-way.result c.second_side-other.result.now room is_taken c.second_side-other.ensures small))
     (λ p q whole. c.with_second.ensures.proves allowed room p q whole)

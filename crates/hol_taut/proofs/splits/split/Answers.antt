@@ -12,15 +12,19 @@ use Rattle.hol_taut.specs.Refuted.{AreTold, AreAllFormulas, AreAllSmall}
 use Rattle.hol_taut.proofs.RefutedLemmas.{assumed-proves, memory-past}
 use Rattle.hol_taut.proofs.AtomLemmas.{atoms-formulas, atoms-small, atoms-told}
 use Rattle.hol_taut.proofs.TautologyLemmas.{denial-image, denial-fits, denied-fits, denied-leads}
+use Rattle.hol_equal.proofs.StepLemmas.{passed_on}
 use Rattle.hol_taut.proofs.splits.split.Goals as goal
 
-pub returns-in-Err-clause-continues : goal.returns-in-Err-clause-continues
-returns-in-Err-clause-continues c =
-    c.in-Err.ensures.continues
+pub returns-in_err-denied-clause-continues : goal.returns-in_err-denied-clause-continues
+returns-in_err-denied-clause-continues c =
+    rw (passed_on c.from_residual.result c.in_err-denied.field-0.0 c.from_residual.ensures.1) (
+    c.in_err-denied.ensures.continues)
 
-pub returns-in-Err-clause-proves : goal.returns-in-Err-clause-proves
-returns-in-Err-clause-proves c = λ room small.
-    memory-past c.in-Err.fault (image c.args.denial.now ∷ []) (image c.args.denial.now) room (c.in-Err.ensures.gives c.requires.denies.known)
+pub returns-in_err-denied-clause-proves : goal.returns-in_err-denied-clause-proves
+returns-in_err-denied-clause-proves c =
+    rw (passed_on c.from_residual.result c.in_err-denied.field-0.0 c.from_residual.ensures.1) (
+    λ room small.
+    memory-past c.in_err-denied.field-0.0 (image c.args.denial.now ∷ []) (image c.args.denial.now) room (c.in_err-denied.ensures.gives c.requires.denies.known))
 
 pub refuted-requires-clause-laws : goal.refuted-requires-clause-laws
 refuted-requires-clause-laws c =
@@ -36,7 +40,7 @@ refuted-requires-clause-always c =
 
 pub refuted-requires-clause-denied : goal.refuted-requires-clause-denied
 refuted-requires-clause-denied c =
-    c.in-Ok.ensures.continues.held
+    c.in_ok-denied.ensures.continues.held
 
 pub refuted-requires-clause-atoms : goal.refuted-requires-clause-atoms
 refuted-requires-clause-atoms c =
@@ -52,17 +56,20 @@ pub refuted-requires-clause-held : goal.refuted-requires-clause-held
 refuted-requires-clause-held c =
     tt
 
-pub returns-in-Err-refuted-clause-continues : goal.returns-in-Err-refuted-clause-continues
-returns-in-Err-refuted-clause-continues c =
-    continues-twice c.args.recorder.now c.assume.new.recorder c.refuted.new.recorder c.assume.result (Err c.in-Err-refuted.fault) c.assume.ensures.continues c.in-Err-refuted.ensures.continues
+pub returns-in_err-absurd-clause-continues : goal.returns-in_err-absurd-clause-continues
+returns-in_err-absurd-clause-continues c =
+    rw (passed_on c.from_residual-in_err-absurd.result c.in_err-absurd.field-0.0 c.from_residual-in_err-absurd.ensures.1) (
+    continues-twice c.args.recorder.now c.assume.new.recorder c.refuted.new.recorder c.assume.result (Err c.in_err-absurd.field-0.0) c.assume.ensures.continues c.in_err-absurd.ensures.continues)
 
-pub returns-in-Err-refuted-clause-proves : goal.returns-in-Err-refuted-clause-proves
-returns-in-Err-refuted-clause-proves c = λ room small.
-    c.in-Err-refuted.ensures.proves (image c.args.denial.now ∷ []) room
-    (subst (λ (t : Nameless). Proves c.in-Ok.denied.theorem (image c.args.denial.now ∷ []) t)
+pub returns-in_err-absurd-clause-proves : goal.returns-in_err-absurd-clause-proves
+returns-in_err-absurd-clause-proves c =
+    rw (passed_on c.from_residual-in_err-absurd.result c.in_err-absurd.field-0.0 c.from_residual-in_err-absurd.ensures.1) (
+    λ room small.
+    c.in_err-absurd.ensures.proves (image c.args.denial.now ∷ []) room
+    (subst (λ (t : Nameless). Proves c.in_ok-denied.denied.theorem (image c.args.denial.now ∷ []) t)
     (denial-image c.args.recorder.now.theory c.args.term.now c.args.denial.now c.requires.formula c.requires.denial)
-    (assumed-proves c.in-Ok.denied (image c.args.denial.now) [] (c.in-Ok.ensures.gives c.requires.denies.known))) tt small
-    (subst (λ (l : List NamedTerm). AreAllSmall room l) (sym c.requires.atoms) (atoms-small room c.args.term.now small))
+    (assumed-proves c.in_ok-denied.denied (image c.args.denial.now) [] (c.in_ok-denied.ensures.gives c.requires.denies.known))) tt small
+    (subst (λ (l : List NamedTerm). AreAllSmall room l) (sym c.requires.atoms) (atoms-small room c.args.term.now small)))
 
 pub denied_by-requires-clause-laws : goal.denied_by-requires-clause-laws
 denied_by-requires-clause-laws c =
@@ -76,24 +83,27 @@ denied_by-requires-clause-formula c =
 
 pub denied_by-requires-clause-absurd : goal.denied_by-requires-clause-absurd
 denied_by-requires-clause-absurd c =
-    c.in-Ok-refuted.ensures.continues.held
+    c.in_ok-absurd.ensures.continues.held
 
-pub returns-in-Err-denied_by-clause-continues : goal.returns-in-Err-denied_by-clause-continues
-returns-in-Err-denied_by-clause-continues c =
-    continues-twice c.args.recorder.now c.refuted.new.recorder c.denied_by.new.recorder c.refuted.result (Err c.in-Err-denied_by.fault)
+pub returns-in_err-denied_denial-clause-continues : goal.returns-in_err-denied_denial-clause-continues
+returns-in_err-denied_denial-clause-continues c =
+    rw (passed_on c.from_residual-in_err-denied_denial.result c.in_err-denied_denial.field-0.0 c.from_residual-in_err-denied_denial.ensures.1) (
+    continues-twice c.args.recorder.now c.refuted.new.recorder c.denied_by.new.recorder c.refuted.result (Err c.in_err-denied_denial.field-0.0)
     (continues-twice c.args.recorder.now c.assume.new.recorder c.refuted.new.recorder c.assume.result c.refuted.result c.assume.ensures.continues c.refuted.ensures.continues)
-    c.in-Err-denied_by.ensures.continues
+    c.in_err-denied_denial.ensures.continues)
 
-pub returns-in-Err-denied_by-clause-proves : goal.returns-in-Err-denied_by-clause-proves
-returns-in-Err-denied_by-clause-proves c = λ room small.
-    c.in-Err-denied_by.ensures.proves [] room (denial-fits room (image c.args.term.now) (image c.args.denial.now)
+pub returns-in_err-denied_denial-clause-proves : goal.returns-in_err-denied_denial-clause-proves
+returns-in_err-denied_denial-clause-proves c =
+    rw (passed_on c.from_residual-in_err-denied_denial.result c.in_err-denied_denial.field-0.0 c.from_residual-in_err-denied_denial.ensures.1) (
+    λ room small.
+    c.in_err-denied_denial.ensures.proves [] room (denial-fits room (image c.args.term.now) (image c.args.denial.now)
     (denial-image c.args.recorder.now.theory c.args.term.now c.args.denial.now c.requires.formula c.requires.denial) small)
     (denied-fits room (image c.args.term.now) (image c.args.denial.now) (denial-image c.args.recorder.now.theory c.args.term.now c.args.denial.now c.requires.formula c.requires.denial) small)
-    (c.in-Ok-refuted.ensures.proves (image c.args.denial.now ∷ []) room
-    (subst (λ (t : Nameless). Proves c.in-Ok.denied.theorem (image c.args.denial.now ∷ []) t)
+    (c.in_ok-absurd.ensures.proves (image c.args.denial.now ∷ []) room
+    (subst (λ (t : Nameless). Proves c.in_ok-denied.denied.theorem (image c.args.denial.now ∷ []) t)
     (denial-image c.args.recorder.now.theory c.args.term.now c.args.denial.now c.requires.formula c.requires.denial)
-    (assumed-proves c.in-Ok.denied (image c.args.denial.now) [] (c.in-Ok.ensures.gives c.requires.denies.known))) tt small
-    (subst (λ (l : List NamedTerm). AreAllSmall room l) (sym c.requires.atoms) (atoms-small room c.args.term.now small)))
+    (assumed-proves c.in_ok-denied.denied (image c.args.denial.now) [] (c.in_ok-denied.ensures.gives c.requires.denies.known))) tt small
+    (subst (λ (l : List NamedTerm). AreAllSmall room l) (sym c.requires.atoms) (atoms-small room c.args.term.now small))))
 
 pub by_one-requires-clause-laws : goal.by_one-requires-clause-laws
 by_one-requires-clause-laws c =
@@ -104,7 +114,7 @@ by_one-requires-clause-laws c =
 
 pub by_one-requires-clause-premise : goal.by_one-requires-clause-premise
 by_one-requires-clause-premise c =
-    c.in-Ok-denied_by.ensures.continues.held.made
+    c.in_ok-denied_denial.ensures.continues.held.made
 
 pub returns-clause-continues : goal.returns-clause-continues
 returns-clause-continues c =
@@ -122,11 +132,11 @@ returns-clause-proves c = λ room small.
     (continues-twice c.args.recorder.now c.refuted.new.recorder c.denied_by.new.recorder c.refuted.result c.denied_by.result
     (continues-twice c.args.recorder.now c.assume.new.recorder c.refuted.new.recorder c.assume.result c.refuted.result c.assume.ensures.continues c.refuted.ensures.continues)
     c.denied_by.ensures.continues) c.requires.formula) small)
-    (c.in-Ok-denied_by.ensures.proves [] room (denial-fits room (image c.args.term.now) (image c.args.denial.now)
+    (c.in_ok-denied_denial.ensures.proves [] room (denial-fits room (image c.args.term.now) (image c.args.denial.now)
     (denial-image c.args.recorder.now.theory c.args.term.now c.args.denial.now c.requires.formula c.requires.denial) small)
     (denied-fits room (image c.args.term.now) (image c.args.denial.now) (denial-image c.args.recorder.now.theory c.args.term.now c.args.denial.now c.requires.formula c.requires.denial) small)
-    (c.in-Ok-refuted.ensures.proves (image c.args.denial.now ∷ []) room
-    (subst (λ (t : Nameless). Proves c.in-Ok.denied.theorem (image c.args.denial.now ∷ []) t)
+    (c.in_ok-absurd.ensures.proves (image c.args.denial.now ∷ []) room
+    (subst (λ (t : Nameless). Proves c.in_ok-denied.denied.theorem (image c.args.denial.now ∷ []) t)
     (denial-image c.args.recorder.now.theory c.args.term.now c.args.denial.now c.requires.formula c.requires.denial)
-    (assumed-proves c.in-Ok.denied (image c.args.denial.now) [] (c.in-Ok.ensures.gives c.requires.denies.known))) tt small
+    (assumed-proves c.in_ok-denied.denied (image c.args.denial.now) [] (c.in_ok-denied.ensures.gives c.requires.denies.known))) tt small
     (subst (λ (l : List NamedTerm). AreAllSmall room l) (sym c.requires.atoms) (atoms-small room c.args.term.now small))))

@@ -10,5 +10,5 @@ connected-requires-clause-laws t c =
 
 pub connected-requires-clause-left : goal.connected-requires-clause-left
 connected-requires-clause-left t c =
-    still_made c.without_negations.new.recorder c.without_negations-right.new.recorder c.without_negations-right.result c.in-Ok.left
-    c.without_negations-right.ensures.continues c.in-Ok.ensures.continues.held.made
+    still_made c.without_negations.new.recorder c.without_negations-right.new.recorder c.without_negations-right.result c.in_ok-left-in-Connected.left
+    c.without_negations-right.ensures.continues c.in_ok-left-in-Connected.ensures.continues.held.made
