@@ -28,9 +28,6 @@ pub fn log_text<'a>(
     ensures too_long { IsErrOf result TooLong → IsPastLimit recorder.now (claims_of claims.now) }
     ensures refusals { IfErr result (Contains (TooLong ∷ Memory ∷ [])) }
 {
-    let lines = match pruned(recorder, alloc, claims) {
-        Ok(lines) => lines,
-        Err(fault) => return Err(fault),
-    };
+    let lines = pruned(recorder, alloc, claims)?;
     text_of_lines(alloc, &lines)
 }

@@ -153,10 +153,7 @@ fn mark_stored<'a>(
         → OnOk result (marking.IsEntryMarked place entry marks.old.items names.old marks.new.items names.new) }
     ensures err { IfErr result (λ fault. fault ≡ Memory) }
 {
-    let stored = match recorder.stored(place) {
-        Ok(stored) => stored,
-        Err(fault) => return Err(fault),
-    };
+    let stored = recorder.stored(place)?;
     match stored {
         Some(entry) => mark_entry(entry, place, marks, names),
         None => pass_over(place, marks),

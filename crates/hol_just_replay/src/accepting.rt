@@ -85,10 +85,7 @@ fn replayed_under(
     ensures refusals { IfErr result IsReplayRefusal }
 {
     logic_stays();
-    let subgoals = match suppose_all(recorder, alloc, logic, falsity, &step.goals) {
-        Ok(subgoals) => subgoals,
-        Err(fault) => return Err(fault),
-    };
+    let subgoals = suppose_all(recorder, alloc, logic, falsity, &step.goals)?;
     replayed(recorder, alloc, logic, store, &step.just, &subgoals)
 }
 
@@ -110,10 +107,7 @@ fn replay_passes(
     ensures theory { recorder.new.theory ≡ recorder.old.theory }
     ensures answer { UnderFormula falsity.now.theorem (AnswersUnder recorder.old.theory (named_sequents (stored_of store.now)) (goal_of goal.now) (step_of step.now) result) }
 {
-    let theorem = match replayed_under(recorder, alloc, logic, store, step, falsity) {
-        Ok(theorem) => theorem,
-        Err(fault) => return Err(fault),
-    };
+    let theorem = replayed_under(recorder, alloc, logic, store, step, falsity)?;
     if !achieves_under(recorder, &theorem, falsity, goal) {
         return Err(Fault::InvalidStep);
     }
@@ -137,10 +131,7 @@ fn passes_once(
     ensures answer { AnswersUnder recorder.old.theory (named_sequents (stored_of store.now)) (goal_of goal.now) (step_of step.now) result false_term }
 {
     logic_stays();
-    let falsity = match falsity_once(recorder, alloc, logic) {
-        Ok(falsity) => falsity,
-        Err(fault) => return Err(fault),
-    };
+    let falsity = falsity_once(recorder, alloc, logic)?;
     replay_passes(recorder, alloc, logic, store, goal, step, &falsity)
 }
 
@@ -161,10 +152,7 @@ fn passes_twice(
     ensures answer { AnswersUnder recorder.old.theory (named_sequents (stored_of store.now)) (goal_of goal.now) (step_of step.now) result false_twice }
 {
     logic_stays();
-    let falsity = match falsity_twice(recorder, alloc, logic) {
-        Ok(falsity) => falsity,
-        Err(fault) => return Err(fault),
-    };
+    let falsity = falsity_twice(recorder, alloc, logic)?;
     replay_passes(recorder, alloc, logic, store, goal, step, &falsity)
 }
 
@@ -190,13 +178,7 @@ pub fn accept(
 {
     logic_stays();
     replays_show_valid();
-    match passes_once(recorder, alloc, logic, store, goal, step) {
-        Ok(()) => {}
-        Err(fault) => return Err(fault),
-    }
-    match passes_twice(recorder, alloc, logic, store, goal, step) {
-        Ok(()) => {}
-        Err(fault) => return Err(fault),
-    }
+    passes_once(recorder, alloc, logic, store, goal, step)?;
+    passes_twice(recorder, alloc, logic, store, goal, step)?;
     Ok(())
 }

@@ -229,10 +229,7 @@ fn line_answers(
     logic_stays();
     let mut answers = Vec::new(alloc);
     for line in lines {
-        let answer = match line_answer(recorder, alloc, logic, store, subgoals, &answers, line) {
-            Ok(answer) => answer,
-            Err(fault) => return Err(fault),
-        };
+        let answer = line_answer(recorder, alloc, logic, store, subgoals, &answers, line)?;
         pushed(&mut answers, answer)?;
     }
     Ok(answers)
@@ -258,10 +255,7 @@ pub(crate) fn replayed(
 {
     let lines = just.lines();
     let root = just.root();
-    let answers = match line_answers(recorder, alloc, logic, store, subgoals, lines) {
-        Ok(answers) => answers,
-        Err(fault) => return Err(fault),
-    };
+    let answers = line_answers(recorder, alloc, logic, store, subgoals, lines)?;
     finished(alloc, &answers, root)
 }
 

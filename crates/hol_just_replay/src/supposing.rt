@@ -52,10 +52,7 @@ pub(crate) fn falsity_once(
 {
     let _logic = logic;
     recorder.theory_is_legal();
-    let term = match falsity(alloc) {
-        Ok(term) => term,
-        Err(fault) => return Err(fault),
-    };
+    let term = falsity(alloc)?;
     assume(recorder, alloc, &term)
 }
 
@@ -68,10 +65,7 @@ fn conjoined(recorder: &mut Recorder, alloc: Global, logic: &Bool) -> Result<Rec
     ensures fits { IsNotLarge (theorem_in result) }
 {
     logic_stays();
-    let once = match falsity_once(recorder, alloc, logic) {
-        Ok(once) => once,
-        Err(fault) => return Err(fault),
-    };
+    let once = falsity_once(recorder, alloc, logic)?;
     conj(recorder, alloc, logic, &once, &once)
 }
 
@@ -83,10 +77,7 @@ fn conjunction_assumed(recorder: &mut Recorder, alloc: Global, logic: &Bool) -> 
     ensures drawn { IsDrawn (Some (record { hypotheses = false_twice ∷ []; conclusion = false_twice })) (theorem_in result) }
     ensures fits { IsNotLarge (theorem_in result) }
 {
-    let conjoined = match conjoined(recorder, alloc, logic) {
-        Ok(conjoined) => conjoined,
-        Err(fault) => return Err(fault),
-    };
+    let conjoined = conjoined(recorder, alloc, logic)?;
     let term = conclusion_of(recorder, &conjoined);
     assume(recorder, alloc, term)
 }
@@ -104,10 +95,7 @@ pub(crate) fn falsity_twice(
     ensures fits { IsNotLarge (theorem_in result) }
 {
     logic_stays();
-    let assumed = match conjunction_assumed(recorder, alloc, logic) {
-        Ok(assumed) => assumed,
-        Err(fault) => return Err(fault),
-    };
+    let assumed = conjunction_assumed(recorder, alloc, logic)?;
     let _conclusion = conclusion_of(recorder, &assumed);
     conjunct1(recorder, alloc, logic, &assumed)
 }
@@ -125,10 +113,7 @@ fn with_assumptions(
     ensures fits { are_roomy (terms_of_theorem theorem.theorem) ≡ true → are_roomy (map image assumptions.now) ≡ true → IsNotLarge (theorem_in result) }
 {
     for p in assumptions {
-        theorem = match add_assum(recorder, alloc, p, &theorem) {
-            Ok(theorem) => theorem,
-            Err(fault) => return Err(fault),
-        };
+        theorem = add_assum(recorder, alloc, p, &theorem)?;
     }
     Ok(theorem)
 }
@@ -149,10 +134,7 @@ fn supposed_from(
     ensures drawn { IsDrawn (supposed_from recorder.old.theory (map image falsity.now.theorem.hypotheses) (goal_of goal.now)) (theorem_in result) }
     ensures fits { HasGoalRoom falsity.now.theorem (goal_of goal.now) → IsNotLarge (theorem_in result) }
 {
-    let theorem = match contr(recorder, alloc, logic, &goal.concl, falsity) {
-        Ok(theorem) => theorem,
-        Err(fault) => return Err(fault),
-    };
+    let theorem = contr(recorder, alloc, logic, &goal.concl, falsity)?;
     with_assumptions(recorder, alloc, &goal.asms, theorem)
 }
 
@@ -223,10 +205,7 @@ pub(crate) fn suppose_all(
     logic_stays();
     let mut theorems = Vec::new(alloc);
     for goal in goals {
-        let theorem = match suppose_one(recorder, alloc, logic, falsity, goal) {
-            Ok(theorem) => theorem,
-            Err(fault) => return Err(fault),
-        };
+        let theorem = suppose_one(recorder, alloc, logic, falsity, goal)?;
         pushed(&mut theorems, theorem)?;
     }
     Ok(theorems)

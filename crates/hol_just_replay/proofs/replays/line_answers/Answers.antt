@@ -23,5 +23,5 @@ line_answer-requires-clause-places c =
 pub loop-line-preserved : goal.loop-line-preserved
 loop-line-preserved c =
     line-next c.args.recorder.now c.loop-line.recorder c.line_answer.new.recorder (stored_of c.args.store.now) c.args.subgoals.now c.args.lines.now c.loop-line.line-index c.line-item.result
-    c.loop-line.answers.items c.pushed.new.answers.items c.in-Ok.answer c.loop-line-test.true c.line-item.is c.loop-line.invariant c.in-Ok.ensures.continues
-    (rw c.deref.ensures.value at c.in-Ok.ensures.met) c.in_ok-pushed.ensures.ok
+    c.loop-line.answers.items c.pushed.new.answers.items c.in_ok-answer.answer c.loop-line-test.true c.line-item.is c.loop-line.invariant c.in_ok-answer.ensures.continues
+    (rw c.deref.ensures.value at c.in_ok-answer.ensures.met) c.in_ok-pushed.ensures.ok

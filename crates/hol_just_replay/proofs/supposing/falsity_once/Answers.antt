@@ -7,8 +7,8 @@ use Rattle.hol_just_replay.proofs.supposing.falsity_once.Goals as goal
 
 pub returns-clause-drawn : goal.returns-clause-drawn
 returns-clause-drawn c =
-    once-drawn c.args.recorder.now c.args.logic.now c.requires.logic c.theory_is_legal.ensures c.in-Ok.term c.in-Ok.ensures.ok c.assume.result c.assume.ensures.gives
+    once-drawn c.args.recorder.now c.args.logic.now c.requires.logic c.theory_is_legal.ensures c.in_ok-term.term c.in_ok-term.ensures.ok c.assume.result c.assume.ensures.gives
 
 pub returns-clause-fits : goal.returns-clause-fits
 returns-clause-fits c =
-    answers-fit (assume_outcome c.args.recorder.now.theory c.in-Ok.term) (theorem_in c.assume.result) c.assume.ensures.outcome (assume-fits c.args.recorder.now.theory c.in-Ok.term)
+    answers-fit (assume_outcome c.args.recorder.now.theory c.in_ok-term.term) (theorem_in c.assume.result) c.assume.ensures.outcome (assume-fits c.args.recorder.now.theory c.in_ok-term.term)

@@ -3,15 +3,17 @@ use Rattle.hol_model.specs.Terms.Nameless.{image}
 use Rattle.hol_just_replay.proofs.SupposingLemmas.{assumes-next}
 use Rattle.std.proofs.Common.{Err}
 use Rattle.hol_just_replay.proofs.SupposingLemmas.{assumes-fits}
+use Rattle.hol_equal.proofs.StepLemmas.{passed_on}
 use Rattle.hol_just_replay.proofs.supposing.with_assumptions.Goals as goal
 
 pub loop-p-preserved : goal.loop-p-preserved
 loop-p-preserved c =
     assumes-next c.args.recorder.now c.loop-p.recorder c.add_assum.new.recorder (map image c.args.theorem.theorem.hypotheses)
     (image c.args.theorem.theorem.conclusion) c.args.assumptions.now c.args.assumptions.now
-    c.loop-p.p-index c.p-item.result c.loop-p.theorem c.in-Ok.theorem c.loop-p-test.true c.p-item.is c.loop-p.invariant c.in-Ok.ensures.continues c.in-Ok.ensures.inferred
+    c.loop-p.p-index c.p-item.result c.loop-p.theorem c.in_ok-theorem.theorem c.loop-p-test.true c.p-item.is c.loop-p.invariant c.in_ok-theorem.ensures.continues c.in_ok-theorem.ensures.inferred
 
-pub returns-in-Err-clause-fits : goal.returns-in-Err-clause-fits
-returns-in-Err-clause-fits c =
+pub returns-in_err-theorem-clause-fits : goal.returns-in_err-theorem-clause-fits
+returns-in_err-theorem-clause-fits c =
+    rw (passed_on c.from_residual.result c.in_err-theorem.field-0.0 c.from_residual.ensures.1) (
     assumes-fits c.args.recorder.now c.loop-p.recorder (map image c.args.theorem.theorem.hypotheses) (image c.args.theorem.theorem.conclusion) c.args.assumptions.now c.args.assumptions.now
-    c.loop-p.p-index c.p-item.result c.loop-p.theorem (Err c.in-Err.fault) c.loop-p-test.true c.p-item.is c.loop-p.invariant c.in-Err.ensures.outcome
+    c.loop-p.p-index c.p-item.result c.loop-p.theorem (Err c.in_err-theorem.field-0.0) c.loop-p-test.true c.p-item.is c.loop-p.invariant c.in_err-theorem.ensures.outcome)
