@@ -95,15 +95,9 @@ pub fn rewrite<H: Converters>(
     ensures outcome { ConvertsOver library.old (H.conversions hosts.now) 0 fuel.old.left (top_depth_conv (conversions.rules_conv (theorems rules.now))) t.now result fuel.new.left }
     ensures makes { Makes library.old library.new result }
 {
-    let choice = match choice_of(alloc, rules) {
-        Ok(choice) => choice,
-        Err(fault) => return Err(fault),
-    };
+    let choice = choice_of(alloc, rules)?;
     // Each conversion without parts stands for the rules.
-    let everywhere = match Conv::prefixed(alloc, Prefix::TopDepth, Conv::All) {
-        Ok(everywhere) => everywhere,
-        Err(fault) => return Err(fault),
-    };
+    let everywhere = Conv::prefixed(alloc, Prefix::TopDepth, Conv::All)?;
     let leaves = ByRules {
         hosts,
         rules,

@@ -76,10 +76,7 @@ fn joined(library: &mut Library, alloc: Global, theorems: Vec<Rec>, last: Rec) -
     let mut theorems = theorems;
     let mut last = last;
     while let Some(theorem) = theorems.pop() {
-        last = match trans_known(library, alloc, &theorem, &last) {
-            Ok(made) => made,
-            Err(fault) => return Err(fault),
-        };
+        last = trans_known(library, alloc, &theorem, &last)?;
     }
     Ok(last)
 }
@@ -170,10 +167,7 @@ fn settled(library: &mut Library, alloc: Global, chain: Chain) -> Result<Chain, 
         current,
         ..
     } = chain;
-    let same = match refl(library, alloc, &current) {
-        Ok(same) => same,
-        Err(fault) => return Err(fault),
-    };
+    let same = refl(library, alloc, &current)?;
     match theorems.push(same) {
         Ok(()) => Ok(Chain {
             theorems,
@@ -195,10 +189,7 @@ fn pushed(library: &Library, alloc: Global, chain: Chain, made: Rec) -> Result<C
     ensures begun { IfOk result (λ new. (t : NamedTerm) → BeginsAt t new) }
     ensures err { IfErr result (λ fault. fault ≡ Memory) }
 {
-    let current = match right_side(library, &made).copy(alloc) {
-        Ok(current) => current,
-        Err(fault) => return Err(fault),
-    };
+    let current = right_side(library, &made).copy(alloc)?;
     let Chain { mut theorems, .. } = chain;
     match theorems.push(made) {
         Ok(()) => Ok(Chain {
@@ -228,10 +219,7 @@ fn extended(
     ensures begun { IfOk result (λ new. (t : NamedTerm) → BeginsAt t chain → BeginsAt t new) }
     ensures err { IfErr result (λ fault. fault ≡ Memory) }
 {
-    let chain = match settled(library, alloc, chain) {
-        Ok(chain) => chain,
-        Err(fault) => return Err(fault),
-    };
+    let chain = settled(library, alloc, chain)?;
     match answer {
         Converted::Same => Ok(Chain {
             theorems: chain.theorems,

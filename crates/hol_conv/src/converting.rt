@@ -124,17 +124,11 @@ fn thenc<L: Leaves>(
     ensures converts { AnswersOver library.old (L.hosts leaves.now) depth fuel.old.left (thenc_of (L.means leaves.now) first.now others.now) t.now result fuel.new.left }
     ensures makes { MakesAnswer library.old library.new t.now result }
 {
-    let mut made = match converted(library, alloc, leaves, first, t, depth, fuel) {
-        Ok(made) => made,
-        Err(fault) => return Err(fault),
-    };
+    let mut made = converted(library, alloc, leaves, first, t, depth, fuel)?;
     for other in others {
         let right = right_of(library, t, &made);
         let next = converted(library, alloc, leaves, other, right, depth, fuel);
-        made = match then(library, alloc, t, &made, right, next) {
-            Ok(made) => made,
-            Err(fault) => return Err(fault),
-        };
+        made = then(library, alloc, t, &made, right, next)?;
     }
     Ok(made)
 }
@@ -187,10 +181,7 @@ fn repeatc<L: Leaves>(
     ensures last { IsFinal (answered library.old.recorder.theory t.now result) }
     ensures makes { MakesAnswer library.old library.new t.now result }
 {
-    let mut chain = match begin(alloc, t) {
-        Ok(chain) => chain,
-        Err(fault) => return Err(fault),
-    };
+    let mut chain = begin(alloc, t)?;
     loop {
         let made = converted(library, alloc, leaves, conv, &chain.current, depth, fuel);
         chain = match link(library, alloc, t, chain, made, fuel) {
@@ -215,13 +206,9 @@ fn rand_conv<L: Leaves>(
     ensures converts { AnswersOver library.old (L.hosts leaves.now) depth fuel.old.left (conversions.rand_conv (stands_for (L.means leaves.now) conv.now)) t.now result fuel.new.left }
     ensures makes { MakesAnswer library.old library.new t.now result }
 {
-    match combination(t, depth) {
-        Ok((function, argument)) => {
-            let part = converted(library, alloc, leaves, conv, argument, depth + 1, fuel);
-            of_argument(library, alloc, t, function, argument, part)
-        }
-        Err(fault) => Err(fault),
-    }
+    let (function, argument) = combination(t, depth)?;
+    let part = converted(library, alloc, leaves, conv, argument, depth + 1, fuel);
+    of_argument(library, alloc, t, function, argument, part)
 }
 
 // RATOR_CONV.
@@ -239,13 +226,9 @@ fn rator_conv<L: Leaves>(
     ensures converts { AnswersOver library.old (L.hosts leaves.now) depth fuel.old.left (conversions.rator_conv (stands_for (L.means leaves.now) conv.now)) t.now result fuel.new.left }
     ensures makes { MakesAnswer library.old library.new t.now result }
 {
-    match combination(t, depth) {
-        Ok((function, argument)) => {
-            let part = converted(library, alloc, leaves, conv, function, depth + 1, fuel);
-            of_function(library, alloc, t, function, argument, part)
-        }
-        Err(fault) => Err(fault),
-    }
+    let (function, argument) = combination(t, depth)?;
+    let part = converted(library, alloc, leaves, conv, function, depth + 1, fuel);
+    of_function(library, alloc, t, function, argument, part)
 }
 
 // ABS_CONV.
@@ -263,13 +246,9 @@ fn abs_conv<L: Leaves>(
     ensures converts { AnswersOver library.old (L.hosts leaves.now) depth fuel.old.left (conversions.abs_conv (stands_for (L.means leaves.now) conv.now)) t.now result fuel.new.left }
     ensures makes { MakesAnswer library.old library.new t.now result }
 {
-    match abstraction(t, depth) {
-        Ok((binder, body)) => {
-            let part = converted(library, alloc, leaves, conv, body, depth + 1, fuel);
-            of_body(library, alloc, t, binder, part)
-        }
-        Err(fault) => Err(fault),
-    }
+    let (binder, body) = abstraction(t, depth)?;
+    let part = converted(library, alloc, leaves, conv, body, depth + 1, fuel);
+    of_body(library, alloc, t, binder, part)
 }
 
 // SUB_CONV.
@@ -292,13 +271,9 @@ fn sub_conv<L: Leaves>(
             if DESCENTS_LIMIT <= depth {
                 return Err(Fault::TooLarge);
             }
-            match converted(library, alloc, leaves, conv, function, depth + 1, fuel) {
-                Ok(first) => {
-                    let second = converted(library, alloc, leaves, conv, argument, depth + 1, fuel);
-                    of_parts(library, alloc, t, function, argument, first, second)
-                }
-                Err(fault) => Err(fault),
-            }
+            let first = converted(library, alloc, leaves, conv, function, depth + 1, fuel)?;
+            let second = converted(library, alloc, leaves, conv, argument, depth + 1, fuel);
+            of_parts(library, alloc, t, function, argument, first, second)
         }
         Parts::Abstraction(_, _, _) => abs_conv(library, alloc, leaves, conv, t, depth, fuel),
         Parts::Variable(_, _) => same(library, t, fuel),
@@ -323,14 +298,10 @@ fn depth_conv<L: Leaves>(
     ensures converts { AnswersOver library.old (L.hosts leaves.now) depth fuel.old.left (stands_for (L.means leaves.now) whole.now) t.now result fuel.new.left }
     ensures makes { MakesAnswer library.old library.new t.now result }
 {
-    match sub_conv(library, alloc, leaves, whole, t, depth, fuel) {
-        Ok(below) => {
-            let right = right_of(library, t, &below);
-            let here = repeatc(library, alloc, leaves, part, right, depth, fuel);
-            then(library, alloc, t, &below, right, here)
-        }
-        Err(fault) => Err(fault),
-    }
+    let below = sub_conv(library, alloc, leaves, whole, t, depth, fuel)?;
+    let right = right_of(library, t, &below);
+    let here = repeatc(library, alloc, leaves, part, right, depth, fuel);
+    then(library, alloc, t, &below, right, here)
 }
 
 // ONCE_DEPTH_CONV, the whole of a part.
@@ -379,10 +350,7 @@ fn top_depth_conv<L: Leaves>(
     ensures converts { AnswersOver library.old (L.hosts leaves.now) depth fuel.old.left (stands_for (L.means leaves.now) whole.now) t.now result fuel.new.left }
     ensures makes { MakesAnswer library.old library.new t.now result }
 {
-    let mut chain = match begin(alloc, t) {
-        Ok(chain) => chain,
-        Err(fault) => return Err(fault),
-    };
+    let mut chain = begin(alloc, t)?;
     loop {
         let here = repeatc(library, alloc, leaves, part, &chain.current, depth, fuel);
         chain = match link(library, alloc, t, chain, here, fuel) {

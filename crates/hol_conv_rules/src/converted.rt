@@ -119,10 +119,7 @@ pub fn of_parts(
         (answered library.old.recorder.theory t.now result) }
     ensures makes { MakesAnswer library.old library.new t.now result }
 {
-    let second = match second {
-        Ok(second) => second,
-        Err(fault) => return Err(fault),
-    };
+    let second = second?;
     t.well_formed();
     match first {
         Converted::Same => match second {
@@ -155,14 +152,9 @@ pub fn of_argument(
         (answered library.old.recorder.theory t.now result) }
     ensures makes { MakesAnswer library.old library.new t.now result }
 {
-    let part = match part {
-        Ok(part) => part,
-        Err(fault) => return Err(fault),
-    };
-    match unchanged(function) {
-        Ok(same) => of_parts(library, alloc, t, function, argument, same, Ok(part)),
-        Err(fault) => Err(fault),
-    }
+    let part = part?;
+    let same = unchanged(function)?;
+    of_parts(library, alloc, t, function, argument, same, Ok(part))
 }
 
 /// AP_THM of an answer on the function of a known term. Refused as REFL of the argument, which may have the larger type.
@@ -184,14 +176,9 @@ pub fn of_function(
         (answered library.old.recorder.theory t.now result) }
     ensures makes { MakesAnswer library.old library.new t.now result }
 {
-    let part = match part {
-        Ok(part) => part,
-        Err(fault) => return Err(fault),
-    };
-    match unchanged(argument) {
-        Ok(same) => of_parts(library, alloc, t, function, argument, part, Ok(same)),
-        Err(fault) => Err(fault),
-    }
+    let part = part?;
+    let same = unchanged(argument)?;
+    of_parts(library, alloc, t, function, argument, part, Ok(same))
 }
 
 /// ABS of an answer on the body of a known term, an abstraction over this variable. Refused as `abs`.
@@ -224,10 +211,8 @@ fn from_same(library: &mut Library, alloc: Global, t: &Term, next: &Rec) -> Resu
     ensures makes { Makes library.old library.new result }
     ensures joins { Joins (from_refl library.old.recorder.theory t.now next.now.theorem) (theorem_in result) }
 {
-    match refl(library, alloc, t) {
-        Ok(same) => trans_known(library, alloc, &same, next),
-        Err(fault) => Err(fault),
-    }
+    let same = refl(library, alloc, t)?;
+    trans_known(library, alloc, &same, next)
 }
 
 // TRANS of a theorem and what REFL proves.
@@ -238,10 +223,8 @@ fn to_same(library: &mut Library, alloc: Global, first: &Rec, right: &Term) -> R
     ensures makes { Makes library.old library.new result }
     ensures joins { Joins (to_refl library.old.recorder.theory first.now.theorem right.now) (theorem_in result) }
 {
-    match refl(library, alloc, right) {
-        Ok(same) => trans_known(library, alloc, first, &same),
-        Err(fault) => Err(fault),
-    }
+    let same = refl(library, alloc, right)?;
+    trans_known(library, alloc, first, &same)
 }
 
 /// TRANS of an answer on a known term and one on its right side, which nothing is compared for. A theorem is not joined for
@@ -265,10 +248,7 @@ pub fn then(
         (answered library.old.recorder.theory t.now result) }
     ensures makes { MakesAnswer library.old library.new t.now result }
 {
-    let next = match next {
-        Ok(next) => next,
-        Err(fault) => return Err(fault),
-    };
+    let next = next?;
     match first {
         Converted::Same => match next {
             Converted::Same => Ok(Converted::Same),

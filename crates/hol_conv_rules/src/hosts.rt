@@ -57,17 +57,14 @@ fn equation_of(
     ensures makes { Makes library.old library.new result }
     ensures answers { AnswersHostEquation library.old.recorder.theory (store_in library.old) left.now (record { term = right.now; justification = tree_of just.now }) (theorem_in result) }
 {
-    let made = match replay(
+    let made = replay(
         &mut library.recorder,
         alloc,
         &library.logic,
         &library.store,
         just,
         &[],
-    ) {
-        Ok(made) => made,
-        Err(fault) => return Err(fault),
-    };
+    )?;
     if is_promised(left, right, made.theorem()) {
         Ok(made)
     } else {

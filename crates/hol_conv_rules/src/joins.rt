@@ -76,10 +76,8 @@ pub fn ap_term(
     ensures makes { Makes library.old library.new result }
     ensures joins { Joins (of_argument library.old.recorder.theory function.now (Ok argument.now.theorem)) (theorem_in result) }
 {
-    match refl(library, alloc, function) {
-        Ok(same) => mk_comb(library, alloc, &same, argument),
-        Err(fault) => Err(fault),
-    }
+    let same = refl(library, alloc, function)?;
+    mk_comb(library, alloc, &same, argument)
 }
 
 /// AP_THM: from `f = g`, `f x = g x`, by REFL and MK_COMB. Refused as these, in this order.
@@ -94,10 +92,8 @@ pub fn ap_thm(
     ensures makes { Makes library.old library.new result }
     ensures joins { Joins (of_function library.old.recorder.theory argument.now (Ok function.now.theorem)) (theorem_in result) }
 {
-    match refl(library, alloc, argument) {
-        Ok(same) => mk_comb(library, alloc, function, &same),
-        Err(fault) => Err(fault),
-    }
+    let same = refl(library, alloc, argument)?;
+    mk_comb(library, alloc, function, &same)
 }
 
 // A variable that is free in a hypothesis is a refusal of the conversion.

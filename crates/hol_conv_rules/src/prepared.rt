@@ -61,14 +61,8 @@ pub fn rules_named(library: &mut Library, alloc: Global, name: &str) -> Result<N
     ensures ok { IfOk result (IsPreparedFor library.new name.now) }
     ensures err { IfErr result (RefusesRules (store_in library.old) name.now) }
 {
-    let rules = match stored_rules(library, alloc, name) {
-        Ok(rules) => rules,
-        Err(fault) => return Err(fault),
-    };
-    let choice = match choice_of(alloc, &rules) {
-        Ok(choice) => choice,
-        Err(fault) => return Err(fault),
-    };
+    let rules = stored_rules(library, alloc, name)?;
+    let choice = choice_of(alloc, &rules)?;
     match String::from_str(alloc, name) {
         Ok(name) => Ok(NamedRules {
             name,
@@ -109,8 +103,6 @@ pub fn rewr_conv(
     ensures makes { Makes library.old library.new result }
     ensures rewrites { RewritesByName (store_in library.old) name.now term.now (theorem_in result) }
 {
-    match rules_named(library, alloc, name) {
-        Ok(named) => prepared_rewr_conv(library, alloc, &named, term),
-        Err(fault) => Err(fault),
-    }
+    let named = rules_named(library, alloc, name)?;
+    prepared_rewr_conv(library, alloc, &named, term)
 }

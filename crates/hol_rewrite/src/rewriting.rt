@@ -42,10 +42,7 @@ pub fn rewrite_at(
     ensures continues { Continues recorder.old recorder.new result }
     ensures rewrites { Rewrites (theorems rules.now) term.now (theorem_in result) ⊎ (theorem_in result ≡ Err Memory) }
 {
-    let (place, found) = match choice.first_match(alloc, term) {
-        Ok(first) => first,
-        Err(fault) => return Err(fault),
-    };
+    let (place, found) = choice.first_match(alloc, term)?;
     rule_instance(recorder, alloc, &rules[place], &found, term)
 }
 
@@ -67,10 +64,7 @@ fn rule_instance(
 {
     let _conclusion = recorder.thm(rule).concl();
     let _type = term.ty();
-    let made = match instance_known(recorder, alloc, &found.types, &found.terms, rule) {
-        Ok(made) => made,
-        Err(fault) => return Err(fault),
-    };
+    let made = instance_known(recorder, alloc, &found.types, &found.terms, rule)?;
     within_limits(recorder.thm(&made));
     Ok(made)
 }

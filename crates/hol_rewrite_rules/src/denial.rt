@@ -32,30 +32,12 @@ pub(crate) fn denied(
     ensures err { IfErr result (λ fault. IsPast fault (are_small premise.now.theorem)) }
 {
     let denial = conclusion_of(recorder, premise);
-    let assumed = match assume(recorder, alloc, denial) {
-        Ok(assumed) => assumed,
-        Err(fault) => return Err(fault),
-    };
-    let implication = match not_elim(recorder, alloc, logic, &assumed) {
-        Ok(implication) => implication,
-        Err(fault) => return Err(fault),
-    };
-    let falsity = match undisch(recorder, alloc, logic, &implication) {
-        Ok(falsity) => falsity,
-        Err(fault) => return Err(fault),
-    };
+    let assumed = assume(recorder, alloc, denial)?;
+    let implication = not_elim(recorder, alloc, logic, &assumed)?;
+    let falsity = undisch(recorder, alloc, logic, &implication)?;
     let false_term = conclusion_of(recorder, &falsity);
-    let assumed_falsity = match assume(recorder, alloc, false_term) {
-        Ok(assumed_falsity) => assumed_falsity,
-        Err(fault) => return Err(fault),
-    };
-    let part_of_falsity = match contr(recorder, alloc, logic, part, &assumed_falsity) {
-        Ok(part_of_falsity) => part_of_falsity,
-        Err(fault) => return Err(fault),
-    };
-    let equation = match deduct_antisym(recorder, alloc, &part_of_falsity, &falsity) {
-        Ok(equation) => equation,
-        Err(fault) => return Err(fault),
-    };
+    let assumed_falsity = assume(recorder, alloc, false_term)?;
+    let part_of_falsity = contr(recorder, alloc, logic, part, &assumed_falsity)?;
+    let equation = deduct_antisym(recorder, alloc, &part_of_falsity, &falsity)?;
     prove_hyp(recorder, alloc, premise, &equation)
 }

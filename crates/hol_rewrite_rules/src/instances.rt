@@ -103,22 +103,10 @@ pub(crate) fn at_fresh_variable(
         unreachable!()
     };
     let _type = parts.body.ty();
-    let avoid = match with_others(alloc, conclusion, hypotheses) {
-        Ok(avoid) => avoid,
-        Err(fault) => return Err(fault),
-    };
-    let fresh = match variant(alloc, &avoid, parts.binder) {
-        Ok(fresh) => fresh,
-        Err(fault) => return Err(fault),
-    };
-    let instance = match spec(recorder, alloc, logic, &fresh, premise) {
-        Ok(instance) => instance,
-        Err(fault) => return Err(fault),
-    };
-    let stated = match with_variable_renamed(alloc, parts.binder, &fresh, parts.body) {
-        Ok(stated) => stated,
-        Err(fault) => return Err(fault),
-    };
+    let avoid = with_others(alloc, conclusion, hypotheses)?;
+    let fresh = variant(alloc, &avoid, parts.binder)?;
+    let instance = spec(recorder, alloc, logic, &fresh, premise)?;
+    let stated = with_variable_renamed(alloc, parts.binder, &fresh, parts.body)?;
     if aconv(&stated, conclusion_of(recorder, &instance)) {
         return named(recorder, alloc, &stated, &instance);
     }

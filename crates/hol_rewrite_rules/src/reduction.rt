@@ -46,14 +46,9 @@ fn parts(
     ensures reduced { (under : List NamedTerm) → IsSameSet (map image theorem.now.theorem.hypotheses) (map image under) → IfOk result (IsReduced recorder.new under theorem.now.theorem) }
     ensures err { IfErr result (λ fault. IsPast fault (are_small theorem.now.theorem)) }
 {
-    let left = match left_part(recorder, alloc, logic, theorem) {
-        Ok(left) => left,
-        Err(fault) => return Err(fault),
-    };
-    match right_part(recorder, alloc, logic, theorem) {
-        Ok(right) => Ok(Reduced::Parts(left, right)),
-        Err(fault) => Err(fault),
-    }
+    let left = left_part(recorder, alloc, logic, theorem)?;
+    let right = right_part(recorder, alloc, logic, theorem)?;
+    Ok(Reduced::Parts(left, right))
 }
 
 // The body of `!x. p`.
@@ -72,10 +67,8 @@ fn body(
     ensures reduced { IfOk result (IsReduced recorder.new hypotheses.now theorem.now.theorem) }
     ensures err { IfErr result (λ fault. IsPast fault (are_small theorem.now.theorem)) }
 {
-    match at_fresh_variable(recorder, alloc, logic, hypotheses, theorem) {
-        Ok(instance) => Ok(Reduced::Body(instance)),
-        Err(fault) => Err(fault),
-    }
+    let instance = at_fresh_variable(recorder, alloc, logic, hypotheses, theorem)?;
+    Ok(Reduced::Body(instance))
 }
 
 // `a = b` itself.
@@ -86,10 +79,8 @@ fn itself(recorder: &mut Recorder, alloc: Global, theorem: &Rec) -> Result<Reduc
     ensures reduced { (under : List NamedTerm) → IsSameSet (map image theorem.now.theorem.hypotheses) (map image under) → IfOk result (IsReduced recorder.new under theorem.now.theorem) }
     ensures err { IfErr result (λ fault. IsPast fault (are_small theorem.now.theorem)) }
 {
-    match theorem.copy(alloc) {
-        Ok(rule) => Ok(Reduced::Rule(rule)),
-        Err(fault) => Err(fault),
-    }
+    let rule = theorem.copy(alloc)?;
+    Ok(Reduced::Rule(rule))
 }
 
 // `p <=> F`, from `~p`.
@@ -107,10 +98,8 @@ fn falsity(
     ensures reduced { (under : List NamedTerm) → IsSameSet (map image theorem.now.theorem.hypotheses) (map image under) → IfOk result (IsReduced recorder.new under theorem.now.theorem) }
     ensures err { IfErr result (λ fault. IsPast fault (are_small theorem.now.theorem)) }
 {
-    match denied(recorder, alloc, logic, part, theorem) {
-        Ok(rule) => Ok(Reduced::Rule(rule)),
-        Err(fault) => Err(fault),
-    }
+    let rule = denied(recorder, alloc, logic, part, theorem)?;
+    Ok(Reduced::Rule(rule))
 }
 
 // `p <=> T`, from `p`.
@@ -127,10 +116,8 @@ fn truth(
     ensures reduced { (under : List NamedTerm) → IsSameSet (map image theorem.now.theorem.hypotheses) (map image under) → IfOk result (IsReduced recorder.new under theorem.now.theorem) }
     ensures err { IfErr result (λ fault. IsPast fault (are_small theorem.now.theorem)) }
 {
-    match affirmed(recorder, alloc, logic, theorem) {
-        Ok(rule) => Ok(Reduced::Rule(rule)),
-        Err(fault) => Err(fault),
-    }
+    let rule = affirmed(recorder, alloc, logic, theorem)?;
+    Ok(Reduced::Rule(rule))
 }
 
 // One step towards the rules of a theorem, whose hypotheses are these.

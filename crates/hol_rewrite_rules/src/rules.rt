@@ -55,14 +55,8 @@ fn rules_under(
 {
     match reduce(recorder, alloc, logic, hypotheses, theorem) {
         Ok(Reduced::Parts(left, right)) => {
-            let rules = match rules_under(recorder, alloc, logic, hypotheses, &left) {
-                Ok(rules) => rules,
-                Err(fault) => return Err(fault),
-            };
-            let more = match rules_under(recorder, alloc, logic, hypotheses, &right) {
-                Ok(more) => more,
-                Err(fault) => return Err(fault),
-            };
+            let rules = rules_under(recorder, alloc, logic, hypotheses, &left)?;
+            let more = rules_under(recorder, alloc, logic, hypotheses, &right)?;
             both(rules, more)
         }
         Ok(Reduced::Body(body)) => rules_under(recorder, alloc, logic, hypotheses, &body),

@@ -1,5 +1,6 @@
 use Rattle.std.proofs.Common.{rules, refl, sym, ap, arith, ◌∙◌, ◌<◌, ◌≡◌, List, Ok}
 use Rattle.std.proofs.lemmas.List.{drop_all}
+use Rattle.std.proofs.lemmas.Result.{err_from_is_err_and}
 use Rattle.hol_model.specs.declared.limits.TheConstants.{DESCENTS_LIMIT}
 use Rattle.hol_model.specs.Terms.NamedTerm.{combination}
 use Rattle.hol_model.specs.Refining.Conversions.{first_is_refused, first_answers}
@@ -52,18 +53,20 @@ converted-returns-in-Try-clause-converts g t c =
     let made = rw c.deref-in-Try.ensures at c.converted-made.ensures.converts in
     rw (c.in-Prefixed.is, c.in-Try.is) (try-arm c.or_same.result made c.converted-made.ensures.makes c.or_same.ensures.tries)
 
-pub thenc-returns-in-Err-clause-converts : goal.thenc-returns-in-Err-clause-converts
-thenc-returns-in-Err-clause-converts g t c =
-    first_is_refused c.in-Err.ensures.converts
+pub thenc-returns-in_err-made-clause-converts : goal.thenc-returns-in_err-made-clause-converts
+thenc-returns-in_err-made-clause-converts g t c =
+    let p = err_from_is_err_and c.from_residual.result c.from_residual.ensures.1 in
+    rw (p.1, p.2)
+    (first_is_refused c.in_err-made.ensures.converts)
 
 pub thenc-loop-other-init : goal.thenc-loop-other-init
 thenc-loop-other-init g t c =
-    let makes = c.in-Ok.ensures.makes in (
-      thenc_start _ _ _ _ _ _ _ _ _ _ c.in-Ok.ensures.converts,
+    let makes = c.in_ok-made.ensures.makes in (
+      thenc_start _ _ _ _ _ _ _ _ _ _ c.in_ok-made.ensures.converts,
       makes.continued,
       makes.library,
       makes.made,
-      is-equation _ _ _ c.in-Ok.ensures.converts,
+      is-equation _ _ _ c.in_ok-made.ensures.converts,
     )
 
 pub thenc-converted-next-requires : goal.thenc-converted-next-requires
@@ -92,22 +95,24 @@ thenc-then-requires g t c =
       equation = link-equations c.converted-next.result next.continued c.converted-next.ensures.converts;
     }
 
-pub thenc-returns-in-Err-then-clause-converts : goal.thenc-returns-in-Err-then-clause-converts
-thenc-returns-in-Err-then-clause-converts g t c =
+pub thenc-returns-in_err-made-2-clause-converts : goal.thenc-returns-in_err-made-2-clause-converts
+thenc-returns-in_err-made-2-clause-converts g t c =
+    let p = err_from_is_err_and c.from_residual-in_err-made-2.result c.from_residual-in_err-made-2.ensures.1 in
     let so_far = rw (rest-drop (g.L.Leaves.means c.args.leaves.now) c.args.others.now c.loop-other.other-index c.other-item.result (omega arith) c.other-item.is) at c.loop-other.invariant.0 in
-    thenc-off c.loop-other.made so_far c.loop-other.invariant.1 c.right_of-right.ensures.right c.converted-next.ensures.converts c.converted-next.ensures.makes c.in-Err-then.ensures.joins
+    rw (p.1, p.2)
+    (thenc-off c.loop-other.made so_far c.loop-other.invariant.1 c.right_of-right.ensures.right c.converted-next.ensures.converts c.converted-next.ensures.makes c.in_err-made-2.ensures.joins)
 
 pub thenc-loop-other-preserved : goal.thenc-loop-other-preserved
 thenc-loop-other-preserved g t c =
     let so_far = rw (rest-drop (g.L.Leaves.means c.args.leaves.now) c.args.others.now c.loop-other.other-index c.other-item.result (omega arith) c.other-item.is) at c.loop-other.invariant.0 in
     let next = c.converted-next.ensures.makes in
-    let makes = c.in-Ok-then.ensures.makes in
-    let joins = c.in-Ok-then.ensures.joins in (
-      thenc-on c.loop-other.made c.in-Ok-then.made so_far c.loop-other.invariant.1 c.right_of-right.ensures.right c.converted-next.ensures.converts next joins,
+    let makes = c.in_ok-made-2.ensures.makes in
+    let joins = c.in_ok-made-2.ensures.joins in (
+      thenc-on c.loop-other.made c.in_ok-made-2.made so_far c.loop-other.invariant.1 c.right_of-right.ensures.right c.converted-next.ensures.converts next joins,
       continued-twice c.loop-other.invariant.1 (continued-twice next.continued makes.continued),
       makes.library,
       makes.made,
-      thenc-equation c.args.t.now c.loop-other.made c.in-Ok-then.made c.loop-other.invariant.1 next joins,
+      thenc-equation c.args.t.now c.loop-other.made c.in_ok-made-2.made c.loop-other.invariant.1 next joins,
     )
 
 pub thenc-returns-clause-converts : goal.thenc-returns-clause-converts
@@ -150,45 +155,49 @@ orelsec-returns-clause-converts g t c =
 
 pub rand_conv-of_argument-requires : goal.rand_conv-of_argument-requires
 rand_conv-of_argument-requires g t c =
-    let parts = c.in-Ok.ensures.ok in
+    let parts = c.in_ok-function.ensures.ok in
     let makes = c.converted-part.ensures.makes in
     record {
       library = makes.library;
       whole = parts.is;
       known = known-later c.args.t.now makes.continued c.requires.asked.known;
-      function = known-later c.in-Ok.function.now makes.continued (known-function c.requires.asked parts.is);
-      argument = known-later c.in-Ok.argument.now makes.continued (known-argument c.requires.asked parts.is);
+      function = known-later c.in_ok-function.function.now makes.continued (known-function c.requires.asked parts.is);
+      argument = known-later c.in_ok-function.argument.now makes.continued (known-argument c.requires.asked parts.is);
       part = makes.made;
     }
 
-pub rand_conv-returns-in-Ok-clause-converts : goal.rand_conv-returns-in-Ok-clause-converts
-rand_conv-returns-in-Ok-clause-converts g t c =
-    argument-arm c.of_argument.result c.in-Ok.ensures.ok c.converted-part.ensures.converts c.converted-part.ensures.makes c.of_argument.ensures.joins
+pub rand_conv-returns-clause-converts : goal.rand_conv-returns-clause-converts
+rand_conv-returns-clause-converts g t c =
+    argument-arm c.of_argument.result c.in_ok-function.ensures.ok c.converted-part.ensures.converts c.converted-part.ensures.makes c.of_argument.ensures.joins
 
-pub rand_conv-returns-in-Err-clause-converts : goal.rand_conv-returns-in-Err-clause-converts
-rand_conv-returns-in-Err-clause-converts g t c =
-    rand-refused _ _ _ c.in-Err.ensures.err
+pub rand_conv-returns-in_err-function-clause-converts : goal.rand_conv-returns-in_err-function-clause-converts
+rand_conv-returns-in_err-function-clause-converts g t c =
+    let p = err_from_is_err_and c.from_residual.result c.from_residual.ensures.1 in
+    rw (p.1, p.2)
+    (rand-refused _ _ _ c.in_err-function.ensures.err)
 
 pub rator_conv-of_function-requires : goal.rator_conv-of_function-requires
 rator_conv-of_function-requires g t c =
-    let parts = c.in-Ok.ensures.ok in
+    let parts = c.in_ok-function.ensures.ok in
     let makes = c.converted-part.ensures.makes in
     record {
       library = makes.library;
       whole = parts.is;
       known = known-later c.args.t.now makes.continued c.requires.asked.known;
-      function = known-later c.in-Ok.function.now makes.continued (known-function c.requires.asked parts.is);
-      argument = known-later c.in-Ok.argument.now makes.continued (known-argument c.requires.asked parts.is);
+      function = known-later c.in_ok-function.function.now makes.continued (known-function c.requires.asked parts.is);
+      argument = known-later c.in_ok-function.argument.now makes.continued (known-argument c.requires.asked parts.is);
       part = makes.made;
     }
 
-pub rator_conv-returns-in-Ok-clause-converts : goal.rator_conv-returns-in-Ok-clause-converts
-rator_conv-returns-in-Ok-clause-converts g t c =
-    function-arm c.of_function.result c.in-Ok.ensures.ok c.converted-part.ensures.converts c.converted-part.ensures.makes c.of_function.ensures.joins
+pub rator_conv-returns-clause-converts : goal.rator_conv-returns-clause-converts
+rator_conv-returns-clause-converts g t c =
+    function-arm c.of_function.result c.in_ok-function.ensures.ok c.converted-part.ensures.converts c.converted-part.ensures.makes c.of_function.ensures.joins
 
-pub rator_conv-returns-in-Err-clause-converts : goal.rator_conv-returns-in-Err-clause-converts
-rator_conv-returns-in-Err-clause-converts g t c =
-    rator-refused _ _ _ c.in-Err.ensures.err
+pub rator_conv-returns-in_err-function-clause-converts : goal.rator_conv-returns-in_err-function-clause-converts
+rator_conv-returns-in_err-function-clause-converts g t c =
+    let p = err_from_is_err_and c.from_residual.result c.from_residual.ensures.1 in
+    rw (p.1, p.2)
+    (rator-refused _ _ _ c.in_err-function.ensures.err)
 
 pub abs_conv-of_body-requires : goal.abs_conv-of_body-requires
 abs_conv-of_body-requires g t c =
@@ -196,17 +205,19 @@ abs_conv-of_body-requires g t c =
     record {
       library = makes.library;
       known = known-later c.args.t.now makes.continued c.requires.asked.known;
-      part = held-answer c.converted-part.new.library c.in-Ok.body.now c.converted-part.result makes.made;
+      part = held-answer c.converted-part.new.library c.in_ok-binder.body.now c.converted-part.result makes.made;
     }
 
-pub abs_conv-returns-in-Ok-clause-converts : goal.abs_conv-returns-in-Ok-clause-converts
-abs_conv-returns-in-Ok-clause-converts g t c =
-    let parts = c.in-Ok.ensures.ok in
+pub abs_conv-returns-clause-converts : goal.abs_conv-returns-clause-converts
+abs_conv-returns-clause-converts g t c =
+    let parts = c.in_ok-binder.ensures.ok in
     body-arm c.of_body.result parts c.converted-part.ensures.converts c.converted-part.ensures.makes (c.of_body.ensures.joins parts.name parts.ty _ parts.bound parts.is)
 
-pub abs_conv-returns-in-Err-clause-converts : goal.abs_conv-returns-in-Err-clause-converts
-abs_conv-returns-in-Err-clause-converts g t c =
-    abs-refused _ _ _ c.in-Err.ensures.err
+pub abs_conv-returns-in_err-binder-clause-converts : goal.abs_conv-returns-in_err-binder-clause-converts
+abs_conv-returns-in_err-binder-clause-converts g t c =
+    let p = err_from_is_err_and c.from_residual.result c.from_residual.ensures.1 in
+    rw (p.1, p.2)
+    (abs-refused _ _ _ c.in_err-binder.ensures.err)
 
 pub sub_conv-returns-then-depth-ge-DESCENTS_LIMIT-clause-converts : goal.sub_conv-returns-then-depth-ge-DESCENTS_LIMIT-clause-converts
 sub_conv-returns-then-depth-ge-DESCENTS_LIMIT-clause-converts g t c =
@@ -216,35 +227,37 @@ sub_conv-returns-then-depth-ge-DESCENTS_LIMIT-clause-converts g t c =
 pub sub_conv-converted-second-requires : goal.sub_conv-converted-second-requires
 sub_conv-converted-second-requires g t c =
     let is : combination c.in-Combination.function.now c.in-Combination.argument.now ≡ c.args.t.now = search rules in
-    let asked = asks-later (g.met.L.Leaves.stays_ready c.args.leaves.now) (of-argument c.requires.asked (sym is)) c.in-Ok.ensures.makes.continued c.in-Ok.ensures.makes.library in
+    let asked = asks-later (g.met.L.Leaves.stays_ready c.args.leaves.now) (of-argument c.requires.asked (sym is)) c.in_ok-first-in-Combination.ensures.makes.continued c.in_ok-first-in-Combination.ensures.makes.library in
     search rules
 
 pub sub_conv-of_parts-requires : goal.sub_conv-of_parts-requires
 sub_conv-of_parts-requires g t c =
     let is : combination c.in-Combination.function.now c.in-Combination.argument.now ≡ c.args.t.now = search rules in
     let second = c.converted-second.ensures.makes in
-    let continued = continued-twice c.in-Ok.ensures.makes.continued second.continued in
+    let continued = continued-twice c.in_ok-first-in-Combination.ensures.makes.continued second.continued in
     record {
       library = second.library;
       whole = sym is;
       known = known-later c.args.t.now continued c.requires.asked.known;
       function = known-later c.in-Combination.function.now continued (known-function c.requires.asked (sym is));
       argument = known-later c.in-Combination.argument.now continued (known-argument c.requires.asked (sym is));
-      first = still-answers c.in-Combination.function.now c.in-Ok.first second.continued c.in-Ok.ensures.makes.made;
+      first = still-answers c.in-Combination.function.now c.in_ok-first-in-Combination.first second.continued c.in_ok-first-in-Combination.ensures.makes.made;
       second = second.made;
     }
 
-pub sub_conv-returns-in-Ok-clause-converts : goal.sub_conv-returns-in-Ok-clause-converts
-sub_conv-returns-in-Ok-clause-converts g t c =
+pub sub_conv-returns-in_ok-first-in-Combination-clause-converts : goal.sub_conv-returns-in_ok-first-in-Combination-clause-converts
+sub_conv-returns-in_ok-first-in-Combination-clause-converts g t c =
     let is : combination c.in-Combination.function.now c.in-Combination.argument.now ≡ c.args.t.now = search rules in
     let room : c.args.depth < DESCENTS_LIMIT = search rules in
-    parts-arm c.of_parts.result is room c.in-Ok.ensures.converts c.in-Ok.ensures.makes c.converted-second.ensures.converts c.converted-second.ensures.makes c.of_parts.ensures.joins
+    parts-arm c.of_parts.result is room c.in_ok-first-in-Combination.ensures.converts c.in_ok-first-in-Combination.ensures.makes c.converted-second.ensures.converts c.converted-second.ensures.makes c.of_parts.ensures.joins
 
-pub sub_conv-returns-in-Err-clause-converts : goal.sub_conv-returns-in-Err-clause-converts
-sub_conv-returns-in-Err-clause-converts g t c =
+pub sub_conv-returns-in_err-first-in-Combination-clause-converts : goal.sub_conv-returns-in_err-first-in-Combination-clause-converts
+sub_conv-returns-in_err-first-in-Combination-clause-converts g t c =
+    let p = err_from_is_err_and c.from_residual.result c.from_residual.ensures.1 in
     let is : combination c.in-Combination.function.now c.in-Combination.argument.now ≡ c.args.t.now = search rules in
     let room : c.args.depth < DESCENTS_LIMIT = search rules in
-    first-part-refused _ _ _ is room c.in-Err.ensures.converts
+    rw (p.1, p.2)
+    (first-part-refused _ _ _ is room c.in_err-first-in-Combination.ensures.converts)
 
 pub sub_conv-returns-in-Abstraction-clause-converts : goal.sub_conv-returns-in-Abstraction-clause-converts
 sub_conv-returns-in-Abstraction-clause-converts g t c =
@@ -260,44 +273,46 @@ sub_conv-returns-in-Constant-clause-converts g t c =
 
 pub depth_conv-right_of-right-requires : goal.depth_conv-right_of-right-requires
 depth_conv-right_of-right-requires g t c =
-    let below = c.in-Ok.ensures.makes in
+    let below = c.in_ok-below.ensures.makes in
     record {
       known = known-later c.args.t.now below.continued c.requires.asked.known;
       answer = below.made;
-      equation = equation-later c.args.t.now c.in-Ok.below below.continued (is-equation _ _ _ c.in-Ok.ensures.converts);
+      equation = equation-later c.args.t.now c.in_ok-below.below below.continued (is-equation _ _ _ c.in_ok-below.ensures.converts);
     }
 
 pub depth_conv-repeatc-here-requires : goal.depth_conv-repeatc-here-requires
 depth_conv-repeatc-here-requires g t c =
     let asked = asks-now c.right_of-right.result.now
-    (g.met.L.Leaves.stays_ready c.args.leaves.now) c.requires.asked c.in-Ok.ensures.makes.continued c.in-Ok.ensures.makes.library
+    (g.met.L.Leaves.stays_ready c.args.leaves.now) c.requires.asked c.in_ok-below.ensures.makes.continued c.in_ok-below.ensures.makes.library
     c.right_of-right.ensures.known in
     let sized = ap size c.requires.whole in
     search rules
 
 pub depth_conv-then-requires : goal.depth_conv-then-requires
 depth_conv-then-requires g t c =
-    let below = c.in-Ok.ensures.makes in
+    let below = c.in_ok-below.ensures.makes in
     let here = c.repeatc-here.ensures.makes in
     record {
       library = here.library;
       known = known-later c.args.t.now (continued-twice below.continued here.continued) c.requires.asked.known;
       right = known-later c.right_of-right.result.now here.continued c.right_of-right.ensures.known;
-      side = side-later c.args.t.now c.in-Ok.below here.continued c.right_of-right.ensures.right;
-      first = still-answers c.args.t.now c.in-Ok.below here.continued below.made;
+      side = side-later c.args.t.now c.in_ok-below.below here.continued c.right_of-right.ensures.right;
+      first = still-answers c.args.t.now c.in_ok-below.below here.continued below.made;
       next = here.made;
       equation = link-equations c.repeatc-here.result here.continued c.repeatc-here.ensures.converts;
     }
 
-pub depth_conv-returns-in-Ok-clause-converts : goal.depth_conv-returns-in-Ok-clause-converts
-depth_conv-returns-in-Ok-clause-converts g t c =
-    depth-arm c.then.result (ap (with_leaves (g.L.Leaves.means c.args.leaves.now)) c.requires.whole) c.in-Ok.ensures.converts c.in-Ok.ensures.makes
+pub depth_conv-returns-clause-converts : goal.depth_conv-returns-clause-converts
+depth_conv-returns-clause-converts g t c =
+    depth-arm c.then.result (ap (with_leaves (g.L.Leaves.means c.args.leaves.now)) c.requires.whole) c.in_ok-below.ensures.converts c.in_ok-below.ensures.makes
     c.right_of-right.ensures.right c.repeatc-here.ensures.converts
     c.repeatc-here.ensures.makes c.then.ensures.joins
 
-pub depth_conv-returns-in-Err-clause-converts : goal.depth_conv-returns-in-Err-clause-converts
-depth_conv-returns-in-Err-clause-converts g t c =
-    depth-stops (ap (with_leaves (g.L.Leaves.means c.args.leaves.now)) c.requires.whole) c.in-Err.ensures.converts
+pub depth_conv-returns-in_err-below-clause-converts : goal.depth_conv-returns-in_err-below-clause-converts
+depth_conv-returns-in_err-below-clause-converts g t c =
+    let p = err_from_is_err_and c.from_residual.result c.from_residual.ensures.1 in
+    rw (p.1, p.2)
+    (depth-stops (ap (with_leaves (g.L.Leaves.means c.args.leaves.now)) c.requires.whole) c.in_err-below.ensures.converts)
 
 pub once_depth_conv-returns-then-not-is_caught-clause-converts : goal.once_depth_conv-returns-then-not-is_caught-clause-converts
 once_depth_conv-returns-then-not-is_caught-clause-converts g t c =
@@ -312,8 +327,11 @@ once_depth_conv-returns-else-not-is_caught-clause-converts g t c =
     once-arm c.or_same.result (ap (with_leaves (g.L.Leaves.means c.args.leaves.now)) c.requires.whole) c.in-Err.ensures.converts (search rules) c.in-Err.ensures.makes c.sub_conv-made.ensures.converts
     c.sub_conv-made.ensures.makes c.or_same.ensures.tries
 
-pub repeatc-returns-in-Err-clause-converts : goal.repeatc-returns-in-Err-clause-converts
-repeatc-returns-in-Err-clause-converts g t c = starved-at c.args.fuel.now.left c.in-Err.ensures.err
+pub repeatc-returns-in_err-chain-clause-converts : goal.repeatc-returns-in_err-chain-clause-converts
+repeatc-returns-in_err-chain-clause-converts g t c =
+    let p = err_from_is_err_and c.from_residual.result c.from_residual.ensures.1 in
+    rw (p.1, p.2)
+    (starved-at c.args.fuel.now.left c.in_err-chain.ensures.err)
 
 pub repeatc-converted-made-requires : goal.repeatc-converted-made-requires
 repeatc-converted-made-requires g t c =
@@ -359,8 +377,11 @@ repeatc-loop-chain-preserved g t c =
       goes.made,
     )
 
-pub top_depth_conv-returns-in-Err-clause-converts : goal.top_depth_conv-returns-in-Err-clause-converts
-top_depth_conv-returns-in-Err-clause-converts g t c = starved-at c.args.fuel.now.left c.in-Err.ensures.err
+pub top_depth_conv-returns-in_err-chain-clause-converts : goal.top_depth_conv-returns-in_err-chain-clause-converts
+top_depth_conv-returns-in_err-chain-clause-converts g t c =
+    let p = err_from_is_err_and c.from_residual.result c.from_residual.ensures.1 in
+    rw (p.1, p.2)
+    (starved-at c.args.fuel.now.left c.in_err-chain.ensures.err)
 
 pub top_depth_conv-repeatc-here-requires : goal.top_depth_conv-repeatc-here-requires
 top_depth_conv-repeatc-here-requires g t c =

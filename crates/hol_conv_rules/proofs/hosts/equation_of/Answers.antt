@@ -7,21 +7,23 @@ use Rattle.hol_just.specs.Steps.{tree_of}
 use Rattle.hol_theorem_library.specs.Library.{store_in}
 use Rattle.hol_conv_rules.proofs.Making.{makes}
 use Rattle.hol_conv_rules.proofs.HostEquations.{host-passes, host-differs}
+use Rattle.hol_equal.proofs.StepLemmas.{passed_on}
 use Rattle.hol_conv_rules.proofs.hosts.equation_of.Goals as goal
 
-pub returns-in-Err-clause-makes : goal.returns-in-Err-clause-makes
-returns-in-Err-clause-makes c =
-    makes c.args.library.now c.replay.new.recorder (Err c.in-Err.fault) c.requires.library c.replay.ensures.grown c.replay.ensures.theory tt
+pub returns-in_err-made-clause-makes : goal.returns-in_err-made-clause-makes
+returns-in_err-made-clause-makes c =
+    rw (passed_on c.from_residual.result c.in_err-made.field-0.0 c.from_residual.ensures.1)
+    (makes c.args.library.now c.replay.new.recorder (Err c.in_err-made.field-0.0) c.requires.library c.replay.ensures.grown c.replay.ensures.theory tt)
 
 pub returns-then-is_promised-clause-makes : goal.returns-then-is_promised-clause-makes
 returns-then-is_promised-clause-makes c =
-    makes c.args.library.now c.replay.new.recorder (Ok c.in-Ok.made) c.requires.library c.replay.ensures.grown c.replay.ensures.theory c.in-Ok.ensures.made
+    makes c.args.library.now c.replay.new.recorder (Ok c.in_ok-made.made) c.requires.library c.replay.ensures.grown c.replay.ensures.theory c.in_ok-made.ensures.made
 
 pub returns-then-is_promised-clause-answers : goal.returns-then-is_promised-clause-answers
 returns-then-is_promised-clause-answers c =
     let library = c.args.library.now in
     let answered : HostEquation = record { term = c.args.right.now; justification = tree_of c.args.just.now } in
-    host-passes library.recorder.theory (store_in library) c.args.left.now answered c.in-Ok.made.theorem c.in-Ok.ensures.answer
+    host-passes library.recorder.theory (store_in library) c.args.left.now answered c.in_ok-made.made.theorem c.in_ok-made.ensures.answer
     (subst (λ (theorem : Theorem). HasSequent (promised c.args.left.now answered) theorem) c.theorem.ensures ((c.is_promised.ensures answered.justification).0 c.if-is_promised.true))
 
 pub returns-else-is_promised-clause-makes : goal.returns-else-is_promised-clause-makes
@@ -32,7 +34,7 @@ pub returns-else-is_promised-clause-answers : goal.returns-else-is_promised-clau
 returns-else-is_promised-clause-answers c =
     let library = c.args.library.now in
     let answered : HostEquation = record { term = c.args.right.now; justification = tree_of c.args.just.now } in
-    host-differs library.recorder.theory (store_in library) c.args.left.now answered c.in-Ok.made.theorem c.in-Ok.ensures.answer
-    (λ (has : HasSequent (promised c.args.left.now answered) c.in-Ok.made.theorem).
+    host-differs library.recorder.theory (store_in library) c.args.left.now answered c.in_ok-made.made.theorem c.in_ok-made.ensures.answer
+    (λ (has : HasSequent (promised c.args.left.now answered) c.in_ok-made.made.theorem).
     let passed = (c.is_promised.ensures answered.justification).1 (subst (λ (theorem : Theorem). HasSequent (promised c.args.left.now answered) theorem) (sym c.theorem.ensures) has) in
     let differs = sym c.if-is_promised.false ∙ passed in cc)

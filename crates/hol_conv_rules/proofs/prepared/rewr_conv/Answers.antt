@@ -1,8 +1,10 @@
+use Rattle.hol_equal.proofs.StepLemmas.{passed_on}
 use Rattle.hol_conv_rules.proofs.Preparing.{refused-by-name, makes-later}
 use Rattle.hol_conv_rules.proofs.prepared.rewr_conv.Goals as goal
 
-pub returns-in-Ok-clause-makes : goal.returns-in-Ok-clause-makes
-returns-in-Ok-clause-makes c = makes-later c.rules_named.ensures.library c.rules_named.ensures.continued c.prepared_rewr_conv.ensures.makes
+pub returns-clause-makes : goal.returns-clause-makes
+returns-clause-makes c = makes-later c.rules_named.ensures.library c.rules_named.ensures.continued c.prepared_rewr_conv.ensures.makes
 
-pub returns-in-Err-clause-rewrites : goal.returns-in-Err-clause-rewrites
-returns-in-Err-clause-rewrites c = refused-by-name c.in-Err.ensures.err
+pub returns-in_err-named-clause-rewrites : goal.returns-in_err-named-clause-rewrites
+returns-in_err-named-clause-rewrites c =
+    rw (passed_on c.from_residual.result c.in_err-named.field-0.0 c.from_residual.ensures.1) (refused-by-name c.in_err-named.ensures.err)

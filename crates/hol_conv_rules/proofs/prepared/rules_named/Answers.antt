@@ -4,18 +4,20 @@ use Rattle.hol_rewrite.specs.RuleSides.{sides_of_rules}
 use Rattle.hol_theorem_library.specs.Library.{store_in}
 use Rattle.hol_conv_rules.specs.Prepared.{RefusesRules, is_without_memory}
 use Rattle.hol_conv_rules.proofs.Preparing.{prepared}
+use Rattle.hol_equal.proofs.StepLemmas.{passed_on}
 use Rattle.hol_conv_rules.proofs.prepared.rules_named.Goals as goal
 
-pub returns-in-Err-choice_of-clause-err : goal.returns-in-Err-choice_of-clause-err
-returns-in-Err-choice_of-clause-err c =
-    subst (λ (fault : Fault). RefusesRules (store_in c.args.library.now) c.args.name.now fault) (sym c.in-Err-choice_of.ensures.err) is_without_memory
+pub returns-in_err-choice-clause-err : goal.returns-in_err-choice-clause-err
+returns-in_err-choice-clause-err c =
+    rw (passed_on c.from_residual-in_err-choice.result c.in_err-choice.field-0.0 c.from_residual-in_err-choice.ensures.1)
+    (subst (λ (fault : Fault). RefusesRules (store_in c.args.library.now) c.args.name.now fault) (sym c.in_err-choice.ensures.err) is_without_memory)
 
-pub returns-in-Ok-from_str-clause-ok : goal.returns-in-Ok-from_str-clause-ok
-returns-in-Ok-from_str-clause-ok c =
+pub returns-in-Ok-clause-ok : goal.returns-in-Ok-clause-ok
+returns-in-Ok-clause-ok c =
     prepared c.args.library.now c.stored_rules.new.library c.args.name.now
-    (record { name = c.in-Ok-from_str.name; rules = c.in-Ok.rules; choice = c.in-Ok-choice_of.choice })
-    c.stored_rules.ensures.continued c.in-Ok-from_str.ensures.ok c.in-Ok.ensures.ok c.in-Ok.ensures.made
-    (c.in-Ok-choice_of.ensures.ok ∙ ap sides_of_rules c.deref.ensures.value)
+    (record { name = c.in-Ok.name; rules = c.in_ok-rules.rules; choice = c.in_ok-choice.choice })
+    c.stored_rules.ensures.continued c.in-Ok.ensures.ok c.in_ok-rules.ensures.ok c.in_ok-rules.ensures.made
+    (c.in_ok-choice.ensures.ok ∙ ap sides_of_rules c.deref.ensures.value)
 
-pub returns-in-Err-from_str-clause-err : goal.returns-in-Err-from_str-clause-err
-returns-in-Err-from_str-clause-err c = is_without_memory
+pub returns-in-Err-clause-err : goal.returns-in-Err-clause-err
+returns-in-Err-clause-err c = is_without_memory

@@ -11,7 +11,7 @@ use Rattle.hol_model.specs.Derived.DerivedRules.{images, terms_of_theorem, not_e
 use Rattle.hol_equal.specs.Sequents.{Shows}
 use Rattle.hol_equal.specs.Formulas.{IsFormula}
 use Rattle.hol_bool.proofs.PreludeSteps.{still_logical}
-use Rattle.hol_equal.proofs.StepLemmas.{still_made}
+use Rattle.hol_equal.proofs.StepLemmas.{still_made, passed_on}
 use Rattle.hol_rewrite_rules.specs.Rules.{are_small}
 use Rattle.hol_rewrite_rules.proofs.Steps.{stated-ok}
 use Rattle.hol_rewrite_rules.proofs.RoomSteps.{stated-past, derives-past, same_lists, not_elim_room, undisch_room, contr_room, deduct_room, prove_hyp_room}
@@ -25,24 +25,25 @@ not_elim-requires-clause-logic c =
     let part = c.args.part.now in
     let premise = c.args.premise.now.theorem in
     let j1 = c.assume.new.recorder in
-    let c1 = c.in-Ok.ensures.continues in
-    let l1 = still_logical j0 j1 (Ok c.in-Ok.assumed) logic c1 c.requires.logic in
+    let c1 = c.in_ok-assumed.ensures.continues in
+    let l1 = still_logical j0 j1 (Ok c.in_ok-assumed.assumed) logic c1 c.requires.logic in
     l1
 
-pub returns-in-Err-not_elim-clause-err : goal.returns-in-Err-not_elim-clause-err
-returns-in-Err-not_elim-clause-err c =
+pub returns-in_err-implication-clause-err : goal.returns-in_err-implication-clause-err
+returns-in_err-implication-clause-err c =
     let j0 = c.args.recorder.now in
     let logic = c.args.logic.now in
     let part = c.args.part.now in
     let premise = c.args.premise.now.theorem in
     let denied = denied-at j0 logic c.requires.logic c.conclusion_of-denial.ensures.legal premise.conclusion part c.requires.part c.conclusion_of-denial.ensures.formula in
-    let assumed = c.in-Ok.assumed.theorem in
-    let assumed_is = assumed-is j0.theory c.conclusion_of-denial.result.now assumed c.in-Ok.ensures.outcome in
+    let assumed = c.in_ok-assumed.assumed.theorem in
+    let assumed_is = assumed-is j0.theory c.conclusion_of-denial.result.now assumed c.in_ok-assumed.ensures.outcome in
     let denial_is = ap (λ (t : Theorem). t.conclusion) assumed_is ∙ c.conclusion_of-denial.ensures.value ∙ denied.is in
     let not_elim_is = not_elim-is assumed part denial_is in
     let assumed_hyps = ap images assumed_is ∙ ap (λ (t : NamedTerm). image t ∷ []) c.conclusion_of-denial.ensures.value in
-    stated-past (Err c.in-Err-not_elim.fault) (terms_of_theorem assumed) (images assumed) (implication part false_term) (not_elim_outcome assumed) (are_small premise) not_elim_is
-    (not_elim_room premise assumed part denied.is denial_is (same_lists (images assumed) (image premise.conclusion ∷ []) assumed_hyps)) c.in-Err-not_elim.ensures.outcome
+    rw (passed_on c.from_residual-in_err-implication.result c.in_err-implication.field-0.0 c.from_residual-in_err-implication.ensures.1)
+    (stated-past (Err c.in_err-implication.field-0.0) (terms_of_theorem assumed) (images assumed) (implication part false_term) (not_elim_outcome assumed) (are_small premise) not_elim_is
+    (not_elim_room premise assumed part denied.is denial_is (same_lists (images assumed) (image premise.conclusion ∷ []) assumed_hyps)) c.in_err-implication.ensures.outcome)
 
 pub undisch-requires-clause-logic : goal.undisch-requires-clause-logic
 undisch-requires-clause-logic c =
@@ -51,32 +52,33 @@ undisch-requires-clause-logic c =
     let part = c.args.part.now in
     let premise = c.args.premise.now.theorem in
     let j1 = c.assume.new.recorder in
-    let c1 = c.in-Ok.ensures.continues in
-    let l1 = still_logical j0 j1 (Ok c.in-Ok.assumed) logic c1 c.requires.logic in
+    let c1 = c.in_ok-assumed.ensures.continues in
+    let l1 = still_logical j0 j1 (Ok c.in_ok-assumed.assumed) logic c1 c.requires.logic in
     let j2 = c.not_elim.new.recorder in
-    let c2 = c.in-Ok-not_elim.ensures.continues in
-    let l2 = still_logical j1 j2 (Ok c.in-Ok-not_elim.implication) logic c2 l1 in
+    let c2 = c.in_ok-implication.ensures.continues in
+    let l2 = still_logical j1 j2 (Ok c.in_ok-implication.implication) logic c2 l1 in
     l2
 
-pub returns-in-Err-undisch-clause-err : goal.returns-in-Err-undisch-clause-err
-returns-in-Err-undisch-clause-err c =
+pub returns-in_err-falsity-clause-err : goal.returns-in_err-falsity-clause-err
+returns-in_err-falsity-clause-err c =
     let j0 = c.args.recorder.now in
     let logic = c.args.logic.now in
     let part = c.args.part.now in
     let premise = c.args.premise.now.theorem in
     let denied = denied-at j0 logic c.requires.logic c.conclusion_of-denial.ensures.legal premise.conclusion part c.requires.part c.conclusion_of-denial.ensures.formula in
-    let assumed = c.in-Ok.assumed.theorem in
-    let assumed_is = assumed-is j0.theory c.conclusion_of-denial.result.now assumed c.in-Ok.ensures.outcome in
+    let assumed = c.in_ok-assumed.assumed.theorem in
+    let assumed_is = assumed-is j0.theory c.conclusion_of-denial.result.now assumed c.in_ok-assumed.ensures.outcome in
     let denial_is = ap (λ (t : Theorem). t.conclusion) assumed_is ∙ c.conclusion_of-denial.ensures.value ∙ denied.is in
     let not_elim_is = not_elim-is assumed part denial_is in
-    let implies = c.in-Ok-not_elim.implication.theorem in
-    let implies_states = stated-ok (Ok c.in-Ok-not_elim.implication) (terms_of_theorem assumed) (images assumed) (implication part false_term) (not_elim_outcome assumed)
-    not_elim_is c.in-Ok-not_elim.ensures.outcome in
+    let implies = c.in_ok-implication.implication.theorem in
+    let implies_states = stated-ok (Ok c.in_ok-implication.implication) (terms_of_theorem assumed) (images assumed) (implication part false_term) (not_elim_outcome assumed)
+    not_elim_is c.in_ok-implication.ensures.outcome in
     let undisch_is = undisch-is implies part implies_states.conclusion in
     let assumed_hyps = ap images assumed_is ∙ ap (λ (t : NamedTerm). image t ∷ []) c.conclusion_of-denial.ensures.value in
     let implies_set = subst (λ (h : List Nameless). IsSameSet (images implies) h) assumed_hyps implies_states.hypotheses in
-    stated-past (Err c.in-Err-undisch.fault) (terms_of_theorem implies) (image part ∷ images implies) false_term (undisch_outcome implies) (are_small premise) undisch_is
-    (undisch_room premise implies part denied.is implies_states.conclusion implies_set) c.in-Err-undisch.ensures.outcome
+    rw (passed_on c.from_residual-in_err-falsity.result c.in_err-falsity.field-0.0 c.from_residual-in_err-falsity.ensures.1)
+    (stated-past (Err c.in_err-falsity.field-0.0) (terms_of_theorem implies) (image part ∷ images implies) false_term (undisch_outcome implies) (are_small premise) undisch_is
+    (undisch_room premise implies part denied.is implies_states.conclusion implies_set) c.in_err-falsity.ensures.outcome)
 
 pub contr-requires-clause-logic : goal.contr-requires-clause-logic
 contr-requires-clause-logic c =
@@ -85,58 +87,59 @@ contr-requires-clause-logic c =
     let part = c.args.part.now in
     let premise = c.args.premise.now.theorem in
     let j1 = c.assume.new.recorder in
-    let c1 = c.in-Ok.ensures.continues in
-    let l1 = still_logical j0 j1 (Ok c.in-Ok.assumed) logic c1 c.requires.logic in
+    let c1 = c.in_ok-assumed.ensures.continues in
+    let l1 = still_logical j0 j1 (Ok c.in_ok-assumed.assumed) logic c1 c.requires.logic in
     let j2 = c.not_elim.new.recorder in
-    let c2 = c.in-Ok-not_elim.ensures.continues in
-    let l2 = still_logical j1 j2 (Ok c.in-Ok-not_elim.implication) logic c2 l1 in
+    let c2 = c.in_ok-implication.ensures.continues in
+    let l2 = still_logical j1 j2 (Ok c.in_ok-implication.implication) logic c2 l1 in
     let j3 = c.undisch.new.recorder in
-    let c3 = c.in-Ok-undisch.ensures.continues in
-    let l3 = still_logical j2 j3 (Ok c.in-Ok-undisch.falsity) logic c3 l2 in
+    let c3 = c.in_ok-falsity.ensures.continues in
+    let l3 = still_logical j2 j3 (Ok c.in_ok-falsity.falsity) logic c3 l2 in
     let j4 = c.assume-2.new.recorder in
-    let c4 = c.in-Ok-assume.ensures.continues in
-    let l4 = still_logical j3 j4 (Ok c.in-Ok-assume.assumed_falsity) logic c4 l3 in
+    let c4 = c.in_ok-assumed_falsity.ensures.continues in
+    let l4 = still_logical j3 j4 (Ok c.in_ok-assumed_falsity.assumed_falsity) logic c4 l3 in
     l4
 
-pub returns-in-Err-contr-clause-err : goal.returns-in-Err-contr-clause-err
-returns-in-Err-contr-clause-err c =
+pub returns-in_err-part_of_falsity-clause-err : goal.returns-in_err-part_of_falsity-clause-err
+returns-in_err-part_of_falsity-clause-err c =
     let j0 = c.args.recorder.now in
     let logic = c.args.logic.now in
     let part = c.args.part.now in
     let premise = c.args.premise.now.theorem in
     let j1 = c.assume.new.recorder in
-    let c1 = c.in-Ok.ensures.continues in
-    let l1 = still_logical j0 j1 (Ok c.in-Ok.assumed) logic c1 c.requires.logic in
+    let c1 = c.in_ok-assumed.ensures.continues in
+    let l1 = still_logical j0 j1 (Ok c.in_ok-assumed.assumed) logic c1 c.requires.logic in
     let j2 = c.not_elim.new.recorder in
-    let c2 = c.in-Ok-not_elim.ensures.continues in
-    let l2 = still_logical j1 j2 (Ok c.in-Ok-not_elim.implication) logic c2 l1 in
+    let c2 = c.in_ok-implication.ensures.continues in
+    let l2 = still_logical j1 j2 (Ok c.in_ok-implication.implication) logic c2 l1 in
     let j3 = c.undisch.new.recorder in
-    let c3 = c.in-Ok-undisch.ensures.continues in
-    let l3 = still_logical j2 j3 (Ok c.in-Ok-undisch.falsity) logic c3 l2 in
+    let c3 = c.in_ok-falsity.ensures.continues in
+    let l3 = still_logical j2 j3 (Ok c.in_ok-falsity.falsity) logic c3 l2 in
     let j4 = c.assume-2.new.recorder in
-    let c4 = c.in-Ok-assume.ensures.continues in
-    let l4 = still_logical j3 j4 (Ok c.in-Ok-assume.assumed_falsity) logic c4 l3 in
+    let c4 = c.in_ok-assumed_falsity.ensures.continues in
+    let l4 = still_logical j3 j4 (Ok c.in_ok-assumed_falsity.assumed_falsity) logic c4 l3 in
     let denied = denied-at j0 logic c.requires.logic c.conclusion_of-denial.ensures.legal premise.conclusion part c.requires.part c.conclusion_of-denial.ensures.formula in
-    let assumed = c.in-Ok.assumed.theorem in
-    let assumed_is = assumed-is j0.theory c.conclusion_of-denial.result.now assumed c.in-Ok.ensures.outcome in
+    let assumed = c.in_ok-assumed.assumed.theorem in
+    let assumed_is = assumed-is j0.theory c.conclusion_of-denial.result.now assumed c.in_ok-assumed.ensures.outcome in
     let denial_is = ap (λ (t : Theorem). t.conclusion) assumed_is ∙ c.conclusion_of-denial.ensures.value ∙ denied.is in
     let not_elim_is = not_elim-is assumed part denial_is in
-    let implies = c.in-Ok-not_elim.implication.theorem in
-    let implies_states = stated-ok (Ok c.in-Ok-not_elim.implication) (terms_of_theorem assumed) (images assumed) (implication part false_term) (not_elim_outcome assumed)
-    not_elim_is c.in-Ok-not_elim.ensures.outcome in
+    let implies = c.in_ok-implication.implication.theorem in
+    let implies_states = stated-ok (Ok c.in_ok-implication.implication) (terms_of_theorem assumed) (images assumed) (implication part false_term) (not_elim_outcome assumed)
+    not_elim_is c.in_ok-implication.ensures.outcome in
     let undisch_is = undisch-is implies part implies_states.conclusion in
-    let falsity = c.in-Ok-undisch.falsity.theorem in
-    let falsity_states = stated-ok (Ok c.in-Ok-undisch.falsity) (terms_of_theorem implies) (image part ∷ images implies) false_term (undisch_outcome implies) undisch_is
-    c.in-Ok-undisch.ensures.outcome in
-    let of_falsity = c.in-Ok-assume.assumed_falsity.theorem in
-    let of_falsity_is = assumed-is j3.theory c.conclusion_of-false_term.result.now of_falsity c.in-Ok-assume.ensures.outcome in
+    let falsity = c.in_ok-falsity.falsity.theorem in
+    let falsity_states = stated-ok (Ok c.in_ok-falsity.falsity) (terms_of_theorem implies) (image part ∷ images implies) false_term (undisch_outcome implies) undisch_is
+    c.in_ok-falsity.ensures.outcome in
+    let of_falsity = c.in_ok-assumed_falsity.assumed_falsity.theorem in
+    let of_falsity_is = assumed-is j3.theory c.conclusion_of-false_term.result.now of_falsity c.in_ok-assumed_falsity.ensures.outcome in
     let false_is : c.conclusion_of-false_term.result.now ≡ false_term = c.conclusion_of-false_term.ensures.value ∙ falsity_states.conclusion in
     let theory_is : j4.theory ≡ j0.theory = c4.theory ∙ c3.theory ∙ c2.theory ∙ c1.theory in
     let formula = subst (λ (t : Theory). IsFormula t part) (sym theory_is) denied.formula in
     let contr_is = contr-is j4.theory of_falsity part (ap (λ (t : Theorem). t.conclusion) of_falsity_is ∙ false_is) formula in
     let of_falsity_hyps = ap images of_falsity_is ∙ ap (λ (t : NamedTerm). image t ∷ []) false_is in
-    stated-past (Err c.in-Err-contr.fault) (image part ∷ terms_of_theorem of_falsity) (images of_falsity) part (contr_outcome j4.theory part of_falsity) (are_small premise) contr_is
-    (contr_room premise of_falsity part denied.is (ap (λ (t : Theorem). t.conclusion) of_falsity_is ∙ false_is) of_falsity_hyps) c.in-Err-contr.ensures.outcome
+    rw (passed_on c.from_residual-in_err-part_of_falsity.result c.in_err-part_of_falsity.field-0.0 c.from_residual-in_err-part_of_falsity.ensures.1)
+    (stated-past (Err c.in_err-part_of_falsity.field-0.0) (image part ∷ terms_of_theorem of_falsity) (images of_falsity) part (contr_outcome j4.theory part of_falsity) (are_small premise) contr_is
+    (contr_room premise of_falsity part denied.is (ap (λ (t : Theorem). t.conclusion) of_falsity_is ∙ false_is) of_falsity_hyps) c.in_err-part_of_falsity.ensures.outcome)
 
 pub deduct_antisym-requires-clause-second : goal.deduct_antisym-requires-clause-second
 deduct_antisym-requires-clause-second c =
@@ -145,61 +148,61 @@ deduct_antisym-requires-clause-second c =
     let part = c.args.part.now in
     let premise = c.args.premise.now.theorem in
     let j1 = c.assume.new.recorder in
-    let c1 = c.in-Ok.ensures.continues in
-    let l1 = still_logical j0 j1 (Ok c.in-Ok.assumed) logic c1 c.requires.logic in
+    let c1 = c.in_ok-assumed.ensures.continues in
+    let l1 = still_logical j0 j1 (Ok c.in_ok-assumed.assumed) logic c1 c.requires.logic in
     let j2 = c.not_elim.new.recorder in
-    let c2 = c.in-Ok-not_elim.ensures.continues in
-    let l2 = still_logical j1 j2 (Ok c.in-Ok-not_elim.implication) logic c2 l1 in
+    let c2 = c.in_ok-implication.ensures.continues in
+    let l2 = still_logical j1 j2 (Ok c.in_ok-implication.implication) logic c2 l1 in
     let j3 = c.undisch.new.recorder in
-    let c3 = c.in-Ok-undisch.ensures.continues in
-    let l3 = still_logical j2 j3 (Ok c.in-Ok-undisch.falsity) logic c3 l2 in
+    let c3 = c.in_ok-falsity.ensures.continues in
+    let l3 = still_logical j2 j3 (Ok c.in_ok-falsity.falsity) logic c3 l2 in
     let j4 = c.assume-2.new.recorder in
-    let c4 = c.in-Ok-assume.ensures.continues in
-    let l4 = still_logical j3 j4 (Ok c.in-Ok-assume.assumed_falsity) logic c4 l3 in
+    let c4 = c.in_ok-assumed_falsity.ensures.continues in
+    let l4 = still_logical j3 j4 (Ok c.in_ok-assumed_falsity.assumed_falsity) logic c4 l3 in
     let j5 = c.contr.new.recorder in
-    let c5 = c.in-Ok-contr.ensures.continues in
-    let m5 = still_made j4 j5 (Ok c.in-Ok-contr.part_of_falsity) c.in-Ok-undisch.falsity c5 (still_made j3 j4 (Ok c.in-Ok-assume.assumed_falsity) c.in-Ok-undisch.falsity c4 c3.held.made) in
+    let c5 = c.in_ok-part_of_falsity.ensures.continues in
+    let m5 = still_made j4 j5 (Ok c.in_ok-part_of_falsity.part_of_falsity) c.in_ok-falsity.falsity c5 (still_made j3 j4 (Ok c.in_ok-assumed_falsity.assumed_falsity) c.in_ok-falsity.falsity c4 c3.held.made) in
     m5
 
-pub returns-in-Err-deduct_antisym-clause-err : goal.returns-in-Err-deduct_antisym-clause-err
-returns-in-Err-deduct_antisym-clause-err c =
+pub returns-in_err-equation-clause-err : goal.returns-in_err-equation-clause-err
+returns-in_err-equation-clause-err c =
     let j0 = c.args.recorder.now in
     let logic = c.args.logic.now in
     let part = c.args.part.now in
     let premise = c.args.premise.now.theorem in
     let j1 = c.assume.new.recorder in
-    let c1 = c.in-Ok.ensures.continues in
-    let l1 = still_logical j0 j1 (Ok c.in-Ok.assumed) logic c1 c.requires.logic in
+    let c1 = c.in_ok-assumed.ensures.continues in
+    let l1 = still_logical j0 j1 (Ok c.in_ok-assumed.assumed) logic c1 c.requires.logic in
     let j2 = c.not_elim.new.recorder in
-    let c2 = c.in-Ok-not_elim.ensures.continues in
-    let l2 = still_logical j1 j2 (Ok c.in-Ok-not_elim.implication) logic c2 l1 in
+    let c2 = c.in_ok-implication.ensures.continues in
+    let l2 = still_logical j1 j2 (Ok c.in_ok-implication.implication) logic c2 l1 in
     let j3 = c.undisch.new.recorder in
-    let c3 = c.in-Ok-undisch.ensures.continues in
-    let l3 = still_logical j2 j3 (Ok c.in-Ok-undisch.falsity) logic c3 l2 in
+    let c3 = c.in_ok-falsity.ensures.continues in
+    let l3 = still_logical j2 j3 (Ok c.in_ok-falsity.falsity) logic c3 l2 in
     let j4 = c.assume-2.new.recorder in
-    let c4 = c.in-Ok-assume.ensures.continues in
-    let l4 = still_logical j3 j4 (Ok c.in-Ok-assume.assumed_falsity) logic c4 l3 in
+    let c4 = c.in_ok-assumed_falsity.ensures.continues in
+    let l4 = still_logical j3 j4 (Ok c.in_ok-assumed_falsity.assumed_falsity) logic c4 l3 in
     let denied = denied-at j0 logic c.requires.logic c.conclusion_of-denial.ensures.legal premise.conclusion part c.requires.part c.conclusion_of-denial.ensures.formula in
-    let assumed = c.in-Ok.assumed.theorem in
-    let assumed_is = assumed-is j0.theory c.conclusion_of-denial.result.now assumed c.in-Ok.ensures.outcome in
+    let assumed = c.in_ok-assumed.assumed.theorem in
+    let assumed_is = assumed-is j0.theory c.conclusion_of-denial.result.now assumed c.in_ok-assumed.ensures.outcome in
     let denial_is = ap (λ (t : Theorem). t.conclusion) assumed_is ∙ c.conclusion_of-denial.ensures.value ∙ denied.is in
     let not_elim_is = not_elim-is assumed part denial_is in
-    let implies = c.in-Ok-not_elim.implication.theorem in
-    let implies_states = stated-ok (Ok c.in-Ok-not_elim.implication) (terms_of_theorem assumed) (images assumed) (implication part false_term) (not_elim_outcome assumed)
-    not_elim_is c.in-Ok-not_elim.ensures.outcome in
+    let implies = c.in_ok-implication.implication.theorem in
+    let implies_states = stated-ok (Ok c.in_ok-implication.implication) (terms_of_theorem assumed) (images assumed) (implication part false_term) (not_elim_outcome assumed)
+    not_elim_is c.in_ok-implication.ensures.outcome in
     let undisch_is = undisch-is implies part implies_states.conclusion in
-    let falsity = c.in-Ok-undisch.falsity.theorem in
-    let falsity_states = stated-ok (Ok c.in-Ok-undisch.falsity) (terms_of_theorem implies) (image part ∷ images implies) false_term (undisch_outcome implies) undisch_is
-    c.in-Ok-undisch.ensures.outcome in
-    let of_falsity = c.in-Ok-assume.assumed_falsity.theorem in
-    let of_falsity_is = assumed-is j3.theory c.conclusion_of-false_term.result.now of_falsity c.in-Ok-assume.ensures.outcome in
+    let falsity = c.in_ok-falsity.falsity.theorem in
+    let falsity_states = stated-ok (Ok c.in_ok-falsity.falsity) (terms_of_theorem implies) (image part ∷ images implies) false_term (undisch_outcome implies) undisch_is
+    c.in_ok-falsity.ensures.outcome in
+    let of_falsity = c.in_ok-assumed_falsity.assumed_falsity.theorem in
+    let of_falsity_is = assumed-is j3.theory c.conclusion_of-false_term.result.now of_falsity c.in_ok-assumed_falsity.ensures.outcome in
     let false_is : c.conclusion_of-false_term.result.now ≡ false_term = c.conclusion_of-false_term.ensures.value ∙ falsity_states.conclusion in
     let theory_is : j4.theory ≡ j0.theory = c4.theory ∙ c3.theory ∙ c2.theory ∙ c1.theory in
     let formula = subst (λ (t : Theory). IsFormula t part) (sym theory_is) denied.formula in
     let contr_is = contr-is j4.theory of_falsity part (ap (λ (t : Theorem). t.conclusion) of_falsity_is ∙ false_is) formula in
-    let part_made = c.in-Ok-contr.part_of_falsity.theorem in
-    let part_states = stated-ok (Ok c.in-Ok-contr.part_of_falsity) (image part ∷ terms_of_theorem of_falsity) (images of_falsity) part (contr_outcome j4.theory part of_falsity)
-    contr_is c.in-Ok-contr.ensures.outcome in
+    let part_made = c.in_ok-part_of_falsity.part_of_falsity.theorem in
+    let part_states = stated-ok (Ok c.in_ok-part_of_falsity.part_of_falsity) (image part ∷ terms_of_theorem of_falsity) (images of_falsity) part (contr_outcome j4.theory part of_falsity)
+    contr_is c.in_ok-part_of_falsity.ensures.outcome in
     let f = image false_term in
     let p = image part in
     let d = image premise.conclusion in
@@ -213,8 +216,9 @@ returns-in-Err-deduct_antisym-clause-err c =
     let assumed_hyps = ap images assumed_is ∙ ap (λ (t : NamedTerm). image t ∷ []) c.conclusion_of-denial.ensures.value in
     let implies_set = subst (λ (h : List Nameless). IsSameSet (images implies) h) assumed_hyps implies_states.hypotheses in
     let falsity_shows = falsity-shows falsity implies p d f falsity_states.hypotheses implies_set (ap image falsity_states.conclusion) in
-    derives-past (Err c.in-Err-deduct_antisym.fault) (nameless_within_limits (nameless_equation bool_type p f)) (are_small premise) (on_the_way f p d)
-    (nameless_equation bool_type p f) (deduct_room premise part denied.is) (c.in-Err-deduct_antisym.ensures.derives (f ∷ []) (p ∷ d ∷ []) p f part_shows falsity_shows)
+    rw (passed_on c.from_residual-in_err-equation.result c.in_err-equation.field-0.0 c.from_residual-in_err-equation.ensures.1)
+    (derives-past (Err c.in_err-equation.field-0.0) (nameless_within_limits (nameless_equation bool_type p f)) (are_small premise) (on_the_way f p d)
+    (nameless_equation bool_type p f) (deduct_room premise part denied.is) (c.in_err-equation.ensures.derives (f ∷ []) (p ∷ d ∷ []) p f part_shows falsity_shows))
 
 pub prove_hyp-requires-clause-first : goal.prove_hyp-requires-clause-first
 prove_hyp-requires-clause-first c =
@@ -223,27 +227,27 @@ prove_hyp-requires-clause-first c =
     let part = c.args.part.now in
     let premise = c.args.premise.now.theorem in
     let j1 = c.assume.new.recorder in
-    let c1 = c.in-Ok.ensures.continues in
-    let l1 = still_logical j0 j1 (Ok c.in-Ok.assumed) logic c1 c.requires.logic in
+    let c1 = c.in_ok-assumed.ensures.continues in
+    let l1 = still_logical j0 j1 (Ok c.in_ok-assumed.assumed) logic c1 c.requires.logic in
     let j2 = c.not_elim.new.recorder in
-    let c2 = c.in-Ok-not_elim.ensures.continues in
-    let l2 = still_logical j1 j2 (Ok c.in-Ok-not_elim.implication) logic c2 l1 in
+    let c2 = c.in_ok-implication.ensures.continues in
+    let l2 = still_logical j1 j2 (Ok c.in_ok-implication.implication) logic c2 l1 in
     let j3 = c.undisch.new.recorder in
-    let c3 = c.in-Ok-undisch.ensures.continues in
-    let l3 = still_logical j2 j3 (Ok c.in-Ok-undisch.falsity) logic c3 l2 in
+    let c3 = c.in_ok-falsity.ensures.continues in
+    let l3 = still_logical j2 j3 (Ok c.in_ok-falsity.falsity) logic c3 l2 in
     let j4 = c.assume-2.new.recorder in
-    let c4 = c.in-Ok-assume.ensures.continues in
-    let l4 = still_logical j3 j4 (Ok c.in-Ok-assume.assumed_falsity) logic c4 l3 in
+    let c4 = c.in_ok-assumed_falsity.ensures.continues in
+    let l4 = still_logical j3 j4 (Ok c.in_ok-assumed_falsity.assumed_falsity) logic c4 l3 in
     let j5 = c.contr.new.recorder in
-    let c5 = c.in-Ok-contr.ensures.continues in
+    let c5 = c.in_ok-part_of_falsity.ensures.continues in
     let j6 = c.deduct_antisym.new.recorder in
-    let c6 = c.in-Ok-deduct_antisym.ensures.continues in
-    let c_2 = continues-twice j0 j1 j2 (Ok c.in-Ok.assumed) (Ok c.in-Ok-not_elim.implication) c1 c2 in
-    let c_3 = continues-twice j0 j2 j3 (Ok c.in-Ok-not_elim.implication) (Ok c.in-Ok-undisch.falsity) c_2 c3 in
-    let c_4 = continues-twice j0 j3 j4 (Ok c.in-Ok-undisch.falsity) (Ok c.in-Ok-assume.assumed_falsity) c_3 c4 in
-    let c_5 = continues-twice j0 j4 j5 (Ok c.in-Ok-assume.assumed_falsity) (Ok c.in-Ok-contr.part_of_falsity) c_4 c5 in
-    let c_6 = continues-twice j0 j5 j6 (Ok c.in-Ok-contr.part_of_falsity) (Ok c.in-Ok-deduct_antisym.equation) c_5 c6 in
-    still_made j0 j6 (Ok c.in-Ok-deduct_antisym.equation) c.args.premise.now c_6 c.requires.premise
+    let c6 = c.in_ok-equation.ensures.continues in
+    let c_2 = continues-twice j0 j1 j2 (Ok c.in_ok-assumed.assumed) (Ok c.in_ok-implication.implication) c1 c2 in
+    let c_3 = continues-twice j0 j2 j3 (Ok c.in_ok-implication.implication) (Ok c.in_ok-falsity.falsity) c_2 c3 in
+    let c_4 = continues-twice j0 j3 j4 (Ok c.in_ok-falsity.falsity) (Ok c.in_ok-assumed_falsity.assumed_falsity) c_3 c4 in
+    let c_5 = continues-twice j0 j4 j5 (Ok c.in_ok-assumed_falsity.assumed_falsity) (Ok c.in_ok-part_of_falsity.part_of_falsity) c_4 c5 in
+    let c_6 = continues-twice j0 j5 j6 (Ok c.in_ok-part_of_falsity.part_of_falsity) (Ok c.in_ok-equation.equation) c_5 c6 in
+    still_made j0 j6 (Ok c.in_ok-equation.equation) c.args.premise.now c_6 c.requires.premise
 
 pub returns-clause-continues : goal.returns-clause-continues
 returns-clause-continues c =
@@ -252,27 +256,27 @@ returns-clause-continues c =
     let part = c.args.part.now in
     let premise = c.args.premise.now.theorem in
     let j1 = c.assume.new.recorder in
-    let c1 = c.in-Ok.ensures.continues in
-    let l1 = still_logical j0 j1 (Ok c.in-Ok.assumed) logic c1 c.requires.logic in
+    let c1 = c.in_ok-assumed.ensures.continues in
+    let l1 = still_logical j0 j1 (Ok c.in_ok-assumed.assumed) logic c1 c.requires.logic in
     let j2 = c.not_elim.new.recorder in
-    let c2 = c.in-Ok-not_elim.ensures.continues in
-    let l2 = still_logical j1 j2 (Ok c.in-Ok-not_elim.implication) logic c2 l1 in
+    let c2 = c.in_ok-implication.ensures.continues in
+    let l2 = still_logical j1 j2 (Ok c.in_ok-implication.implication) logic c2 l1 in
     let j3 = c.undisch.new.recorder in
-    let c3 = c.in-Ok-undisch.ensures.continues in
-    let l3 = still_logical j2 j3 (Ok c.in-Ok-undisch.falsity) logic c3 l2 in
+    let c3 = c.in_ok-falsity.ensures.continues in
+    let l3 = still_logical j2 j3 (Ok c.in_ok-falsity.falsity) logic c3 l2 in
     let j4 = c.assume-2.new.recorder in
-    let c4 = c.in-Ok-assume.ensures.continues in
-    let l4 = still_logical j3 j4 (Ok c.in-Ok-assume.assumed_falsity) logic c4 l3 in
+    let c4 = c.in_ok-assumed_falsity.ensures.continues in
+    let l4 = still_logical j3 j4 (Ok c.in_ok-assumed_falsity.assumed_falsity) logic c4 l3 in
     let j5 = c.contr.new.recorder in
-    let c5 = c.in-Ok-contr.ensures.continues in
+    let c5 = c.in_ok-part_of_falsity.ensures.continues in
     let j6 = c.deduct_antisym.new.recorder in
-    let c6 = c.in-Ok-deduct_antisym.ensures.continues in
-    let c_2 = continues-twice j0 j1 j2 (Ok c.in-Ok.assumed) (Ok c.in-Ok-not_elim.implication) c1 c2 in
-    let c_3 = continues-twice j0 j2 j3 (Ok c.in-Ok-not_elim.implication) (Ok c.in-Ok-undisch.falsity) c_2 c3 in
-    let c_4 = continues-twice j0 j3 j4 (Ok c.in-Ok-undisch.falsity) (Ok c.in-Ok-assume.assumed_falsity) c_3 c4 in
-    let c_5 = continues-twice j0 j4 j5 (Ok c.in-Ok-assume.assumed_falsity) (Ok c.in-Ok-contr.part_of_falsity) c_4 c5 in
-    let c_6 = continues-twice j0 j5 j6 (Ok c.in-Ok-contr.part_of_falsity) (Ok c.in-Ok-deduct_antisym.equation) c_5 c6 in
-    continues-twice j0 j6 c.prove_hyp.new.recorder (Ok c.in-Ok-deduct_antisym.equation) c.prove_hyp.result c_6 c.prove_hyp.ensures.continues
+    let c6 = c.in_ok-equation.ensures.continues in
+    let c_2 = continues-twice j0 j1 j2 (Ok c.in_ok-assumed.assumed) (Ok c.in_ok-implication.implication) c1 c2 in
+    let c_3 = continues-twice j0 j2 j3 (Ok c.in_ok-implication.implication) (Ok c.in_ok-falsity.falsity) c_2 c3 in
+    let c_4 = continues-twice j0 j3 j4 (Ok c.in_ok-falsity.falsity) (Ok c.in_ok-assumed_falsity.assumed_falsity) c_3 c4 in
+    let c_5 = continues-twice j0 j4 j5 (Ok c.in_ok-assumed_falsity.assumed_falsity) (Ok c.in_ok-part_of_falsity.part_of_falsity) c_4 c5 in
+    let c_6 = continues-twice j0 j5 j6 (Ok c.in_ok-part_of_falsity.part_of_falsity) (Ok c.in_ok-equation.equation) c_5 c6 in
+    continues-twice j0 j6 c.prove_hyp.new.recorder (Ok c.in_ok-equation.equation) c.prove_hyp.result c_6 c.prove_hyp.ensures.continues
 
 pub returns-clause-ok : goal.returns-clause-ok
 returns-clause-ok c =
@@ -281,38 +285,38 @@ returns-clause-ok c =
     let part = c.args.part.now in
     let premise = c.args.premise.now.theorem in
     let j1 = c.assume.new.recorder in
-    let c1 = c.in-Ok.ensures.continues in
-    let l1 = still_logical j0 j1 (Ok c.in-Ok.assumed) logic c1 c.requires.logic in
+    let c1 = c.in_ok-assumed.ensures.continues in
+    let l1 = still_logical j0 j1 (Ok c.in_ok-assumed.assumed) logic c1 c.requires.logic in
     let j2 = c.not_elim.new.recorder in
-    let c2 = c.in-Ok-not_elim.ensures.continues in
-    let l2 = still_logical j1 j2 (Ok c.in-Ok-not_elim.implication) logic c2 l1 in
+    let c2 = c.in_ok-implication.ensures.continues in
+    let l2 = still_logical j1 j2 (Ok c.in_ok-implication.implication) logic c2 l1 in
     let j3 = c.undisch.new.recorder in
-    let c3 = c.in-Ok-undisch.ensures.continues in
-    let l3 = still_logical j2 j3 (Ok c.in-Ok-undisch.falsity) logic c3 l2 in
+    let c3 = c.in_ok-falsity.ensures.continues in
+    let l3 = still_logical j2 j3 (Ok c.in_ok-falsity.falsity) logic c3 l2 in
     let j4 = c.assume-2.new.recorder in
-    let c4 = c.in-Ok-assume.ensures.continues in
-    let l4 = still_logical j3 j4 (Ok c.in-Ok-assume.assumed_falsity) logic c4 l3 in
+    let c4 = c.in_ok-assumed_falsity.ensures.continues in
+    let l4 = still_logical j3 j4 (Ok c.in_ok-assumed_falsity.assumed_falsity) logic c4 l3 in
     let denied = denied-at j0 logic c.requires.logic c.conclusion_of-denial.ensures.legal premise.conclusion part c.requires.part c.conclusion_of-denial.ensures.formula in
-    let assumed = c.in-Ok.assumed.theorem in
-    let assumed_is = assumed-is j0.theory c.conclusion_of-denial.result.now assumed c.in-Ok.ensures.outcome in
+    let assumed = c.in_ok-assumed.assumed.theorem in
+    let assumed_is = assumed-is j0.theory c.conclusion_of-denial.result.now assumed c.in_ok-assumed.ensures.outcome in
     let denial_is = ap (λ (t : Theorem). t.conclusion) assumed_is ∙ c.conclusion_of-denial.ensures.value ∙ denied.is in
     let not_elim_is = not_elim-is assumed part denial_is in
-    let implies = c.in-Ok-not_elim.implication.theorem in
-    let implies_states = stated-ok (Ok c.in-Ok-not_elim.implication) (terms_of_theorem assumed) (images assumed) (implication part false_term) (not_elim_outcome assumed)
-    not_elim_is c.in-Ok-not_elim.ensures.outcome in
+    let implies = c.in_ok-implication.implication.theorem in
+    let implies_states = stated-ok (Ok c.in_ok-implication.implication) (terms_of_theorem assumed) (images assumed) (implication part false_term) (not_elim_outcome assumed)
+    not_elim_is c.in_ok-implication.ensures.outcome in
     let undisch_is = undisch-is implies part implies_states.conclusion in
-    let falsity = c.in-Ok-undisch.falsity.theorem in
-    let falsity_states = stated-ok (Ok c.in-Ok-undisch.falsity) (terms_of_theorem implies) (image part ∷ images implies) false_term (undisch_outcome implies) undisch_is
-    c.in-Ok-undisch.ensures.outcome in
-    let of_falsity = c.in-Ok-assume.assumed_falsity.theorem in
-    let of_falsity_is = assumed-is j3.theory c.conclusion_of-false_term.result.now of_falsity c.in-Ok-assume.ensures.outcome in
+    let falsity = c.in_ok-falsity.falsity.theorem in
+    let falsity_states = stated-ok (Ok c.in_ok-falsity.falsity) (terms_of_theorem implies) (image part ∷ images implies) false_term (undisch_outcome implies) undisch_is
+    c.in_ok-falsity.ensures.outcome in
+    let of_falsity = c.in_ok-assumed_falsity.assumed_falsity.theorem in
+    let of_falsity_is = assumed-is j3.theory c.conclusion_of-false_term.result.now of_falsity c.in_ok-assumed_falsity.ensures.outcome in
     let false_is : c.conclusion_of-false_term.result.now ≡ false_term = c.conclusion_of-false_term.ensures.value ∙ falsity_states.conclusion in
     let theory_is : j4.theory ≡ j0.theory = c4.theory ∙ c3.theory ∙ c2.theory ∙ c1.theory in
     let formula = subst (λ (t : Theory). IsFormula t part) (sym theory_is) denied.formula in
     let contr_is = contr-is j4.theory of_falsity part (ap (λ (t : Theorem). t.conclusion) of_falsity_is ∙ false_is) formula in
-    let part_made = c.in-Ok-contr.part_of_falsity.theorem in
-    let part_states = stated-ok (Ok c.in-Ok-contr.part_of_falsity) (image part ∷ terms_of_theorem of_falsity) (images of_falsity) part (contr_outcome j4.theory part of_falsity)
-    contr_is c.in-Ok-contr.ensures.outcome in
+    let part_made = c.in_ok-part_of_falsity.part_of_falsity.theorem in
+    let part_states = stated-ok (Ok c.in_ok-part_of_falsity.part_of_falsity) (image part ∷ terms_of_theorem of_falsity) (images of_falsity) part (contr_outcome j4.theory part of_falsity)
+    contr_is c.in_ok-part_of_falsity.ensures.outcome in
     let f = image false_term in
     let p = image part in
     let d = image premise.conclusion in
@@ -326,9 +330,9 @@ returns-clause-ok c =
     let assumed_hyps = ap images assumed_is ∙ ap (λ (t : NamedTerm). image t ∷ []) c.conclusion_of-denial.ensures.value in
     let implies_set = subst (λ (h : List Nameless). IsSameSet (images implies) h) assumed_hyps implies_states.hypotheses in
     let falsity_shows = falsity-shows falsity implies p d f falsity_states.hypotheses implies_set (ap image falsity_states.conclusion) in
-    let equation_made = c.in-Ok-deduct_antisym.equation.theorem in
-    let equation_shows = c.in-Ok-deduct_antisym.ensures.derives (f ∷ []) (p ∷ d ∷ []) p f part_shows falsity_shows in
-    let equation_named = c.in-Ok-deduct_antisym.ensures.names ∙ (λ i. equation (part_states.conclusion i) (falsity_states.conclusion i)) in
+    let equation_made = c.in_ok-equation.equation.theorem in
+    let equation_shows = c.in_ok-equation.ensures.derives (f ∷ []) (p ∷ d ∷ []) p f part_shows falsity_shows in
+    let equation_named = c.in_ok-equation.ensures.names ∙ (λ i. equation (part_states.conclusion i) (falsity_states.conclusion i)) in
     denial-proved c.prove_hyp.result (terms_of_theorem premise ++ terms_of_theorem equation_made) premise equation_made part (nameless_equation bool_type p f) denied.is
     equation_named equation_shows c.prove_hyp.ensures.outcome
 
@@ -339,38 +343,38 @@ returns-clause-err c =
     let part = c.args.part.now in
     let premise = c.args.premise.now.theorem in
     let j1 = c.assume.new.recorder in
-    let c1 = c.in-Ok.ensures.continues in
-    let l1 = still_logical j0 j1 (Ok c.in-Ok.assumed) logic c1 c.requires.logic in
+    let c1 = c.in_ok-assumed.ensures.continues in
+    let l1 = still_logical j0 j1 (Ok c.in_ok-assumed.assumed) logic c1 c.requires.logic in
     let j2 = c.not_elim.new.recorder in
-    let c2 = c.in-Ok-not_elim.ensures.continues in
-    let l2 = still_logical j1 j2 (Ok c.in-Ok-not_elim.implication) logic c2 l1 in
+    let c2 = c.in_ok-implication.ensures.continues in
+    let l2 = still_logical j1 j2 (Ok c.in_ok-implication.implication) logic c2 l1 in
     let j3 = c.undisch.new.recorder in
-    let c3 = c.in-Ok-undisch.ensures.continues in
-    let l3 = still_logical j2 j3 (Ok c.in-Ok-undisch.falsity) logic c3 l2 in
+    let c3 = c.in_ok-falsity.ensures.continues in
+    let l3 = still_logical j2 j3 (Ok c.in_ok-falsity.falsity) logic c3 l2 in
     let j4 = c.assume-2.new.recorder in
-    let c4 = c.in-Ok-assume.ensures.continues in
-    let l4 = still_logical j3 j4 (Ok c.in-Ok-assume.assumed_falsity) logic c4 l3 in
+    let c4 = c.in_ok-assumed_falsity.ensures.continues in
+    let l4 = still_logical j3 j4 (Ok c.in_ok-assumed_falsity.assumed_falsity) logic c4 l3 in
     let denied = denied-at j0 logic c.requires.logic c.conclusion_of-denial.ensures.legal premise.conclusion part c.requires.part c.conclusion_of-denial.ensures.formula in
-    let assumed = c.in-Ok.assumed.theorem in
-    let assumed_is = assumed-is j0.theory c.conclusion_of-denial.result.now assumed c.in-Ok.ensures.outcome in
+    let assumed = c.in_ok-assumed.assumed.theorem in
+    let assumed_is = assumed-is j0.theory c.conclusion_of-denial.result.now assumed c.in_ok-assumed.ensures.outcome in
     let denial_is = ap (λ (t : Theorem). t.conclusion) assumed_is ∙ c.conclusion_of-denial.ensures.value ∙ denied.is in
     let not_elim_is = not_elim-is assumed part denial_is in
-    let implies = c.in-Ok-not_elim.implication.theorem in
-    let implies_states = stated-ok (Ok c.in-Ok-not_elim.implication) (terms_of_theorem assumed) (images assumed) (implication part false_term) (not_elim_outcome assumed)
-    not_elim_is c.in-Ok-not_elim.ensures.outcome in
+    let implies = c.in_ok-implication.implication.theorem in
+    let implies_states = stated-ok (Ok c.in_ok-implication.implication) (terms_of_theorem assumed) (images assumed) (implication part false_term) (not_elim_outcome assumed)
+    not_elim_is c.in_ok-implication.ensures.outcome in
     let undisch_is = undisch-is implies part implies_states.conclusion in
-    let falsity = c.in-Ok-undisch.falsity.theorem in
-    let falsity_states = stated-ok (Ok c.in-Ok-undisch.falsity) (terms_of_theorem implies) (image part ∷ images implies) false_term (undisch_outcome implies) undisch_is
-    c.in-Ok-undisch.ensures.outcome in
-    let of_falsity = c.in-Ok-assume.assumed_falsity.theorem in
-    let of_falsity_is = assumed-is j3.theory c.conclusion_of-false_term.result.now of_falsity c.in-Ok-assume.ensures.outcome in
+    let falsity = c.in_ok-falsity.falsity.theorem in
+    let falsity_states = stated-ok (Ok c.in_ok-falsity.falsity) (terms_of_theorem implies) (image part ∷ images implies) false_term (undisch_outcome implies) undisch_is
+    c.in_ok-falsity.ensures.outcome in
+    let of_falsity = c.in_ok-assumed_falsity.assumed_falsity.theorem in
+    let of_falsity_is = assumed-is j3.theory c.conclusion_of-false_term.result.now of_falsity c.in_ok-assumed_falsity.ensures.outcome in
     let false_is : c.conclusion_of-false_term.result.now ≡ false_term = c.conclusion_of-false_term.ensures.value ∙ falsity_states.conclusion in
     let theory_is : j4.theory ≡ j0.theory = c4.theory ∙ c3.theory ∙ c2.theory ∙ c1.theory in
     let formula = subst (λ (t : Theory). IsFormula t part) (sym theory_is) denied.formula in
     let contr_is = contr-is j4.theory of_falsity part (ap (λ (t : Theorem). t.conclusion) of_falsity_is ∙ false_is) formula in
-    let part_made = c.in-Ok-contr.part_of_falsity.theorem in
-    let part_states = stated-ok (Ok c.in-Ok-contr.part_of_falsity) (image part ∷ terms_of_theorem of_falsity) (images of_falsity) part (contr_outcome j4.theory part of_falsity)
-    contr_is c.in-Ok-contr.ensures.outcome in
+    let part_made = c.in_ok-part_of_falsity.part_of_falsity.theorem in
+    let part_states = stated-ok (Ok c.in_ok-part_of_falsity.part_of_falsity) (image part ∷ terms_of_theorem of_falsity) (images of_falsity) part (contr_outcome j4.theory part of_falsity)
+    contr_is c.in_ok-part_of_falsity.ensures.outcome in
     let f = image false_term in
     let p = image part in
     let d = image premise.conclusion in
@@ -384,9 +388,9 @@ returns-clause-err c =
     let assumed_hyps = ap images assumed_is ∙ ap (λ (t : NamedTerm). image t ∷ []) c.conclusion_of-denial.ensures.value in
     let implies_set = subst (λ (h : List Nameless). IsSameSet (images implies) h) assumed_hyps implies_states.hypotheses in
     let falsity_shows = falsity-shows falsity implies p d f falsity_states.hypotheses implies_set (ap image falsity_states.conclusion) in
-    let equation_made = c.in-Ok-deduct_antisym.equation.theorem in
-    let equation_shows = c.in-Ok-deduct_antisym.ensures.derives (f ∷ []) (p ∷ d ∷ []) p f part_shows falsity_shows in
-    let equation_named = c.in-Ok-deduct_antisym.ensures.names ∙ (λ i. equation (part_states.conclusion i) (falsity_states.conclusion i)) in
+    let equation_made = c.in_ok-equation.equation.theorem in
+    let equation_shows = c.in_ok-equation.ensures.derives (f ∷ []) (p ∷ d ∷ []) p f part_shows falsity_shows in
+    let equation_named = c.in_ok-equation.ensures.names ∙ (λ i. equation (part_states.conclusion i) (falsity_states.conclusion i)) in
     stated-past c.prove_hyp.result (terms_of_theorem premise ++ terms_of_theorem equation_made)
     (if is_among d (images equation_made) then images premise ++ without d (images equation_made) else images equation_made) equation_made.conclusion
     (prove_hyp_outcome premise equation_made) (are_small premise) refl

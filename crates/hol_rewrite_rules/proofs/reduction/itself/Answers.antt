@@ -4,10 +4,10 @@ use Rattle.hol_rewrite_rules.proofs.Joining.{equal-has}
 use Rattle.hol_rewrite_rules.proofs.Reducing.{only-rule}
 use Rattle.hol_rewrite_rules.proofs.reduction.itself.Goals as goal
 
-pub returns-in-Ok-clause-reduced : goal.returns-in-Ok-clause-reduced
-returns-in-Ok-clause-reduced c hypotheses same =
+pub returns-clause-reduced : goal.returns-clause-reduced
+returns-clause-reduced c hypotheses same =
     let journal = c.args.recorder.now in
     let premise = c.args.theorem.now in
     let form = c.requires.form in
-    subst (IsOnlyRule journal hypotheses premise.theorem) (sym c.in-Ok.ensures.ok)
+    subst (IsOnlyRule journal hypotheses premise.theorem) (sym c.in_ok-rule.ensures.ok)
     (only-rule journal hypotheses premise.theorem premise c.requires.made (equal-has hypotheses premise.theorem form.0 form.1 form.2 same))

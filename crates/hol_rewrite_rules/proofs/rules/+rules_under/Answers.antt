@@ -16,11 +16,11 @@ rules_under-requires-in-Ok-Parts t c =
     let before : nodes c.in-Ok-Parts.right.theorem.conclusion < nodes c.args.theorem.now.theorem.conclusion = are.is_right.fewer in
     (omega arith, (logical, (made, are.is_right.same_hypotheses)))
 
-pub returns-in-Ok-rules_under-clause-ok : goal.returns-in-Ok-rules_under-clause-ok
-returns-in-Ok-rules_under-clause-ok t c =
+pub returns-in_ok-more-in-Ok-Parts-clause-ok : goal.returns-in_ok-more-in-Ok-Parts-clause-ok
+returns-in_ok-more-in-Ok-Parts-clause-ok t c =
     let are : AreParts c.reduce.new.recorder c.args.hypotheses.now c.args.theorem.now.theorem c.in-Ok-Parts.left c.in-Ok-Parts.right = rw c.in-Ok-Parts.field-0-is at c.in-Ok-Parts.ensures.reduced in
-    if-ok (λ all. all.items ≡ c.in-Ok.rules.items ++ c.in-Ok-rules_under.more.items) (λ all. HasRules c.args.hypotheses.now c.args.theorem.now.theorem.conclusion (theorems all.items)) c.both.result
-    (λ all is. rules-joined c.reduce.new.recorder c.args.hypotheses.now c.args.theorem.now.theorem c.in-Ok-Parts.left c.in-Ok-Parts.right c.in-Ok.rules.items
-    c.in-Ok-rules_under.more.items all.items
-    are c.in-Ok.ensures.ok c.in-Ok-rules_under.ensures.ok is)
+    if-ok (λ all. all.items ≡ c.in_ok-rules-in-Ok-Parts.rules.items ++ c.in_ok-more-in-Ok-Parts.more.items) (λ all. HasRules c.args.hypotheses.now c.args.theorem.now.theorem.conclusion (theorems all.items)) c.both.result
+    (λ all is. rules-joined c.reduce.new.recorder c.args.hypotheses.now c.args.theorem.now.theorem c.in-Ok-Parts.left c.in-Ok-Parts.right c.in_ok-rules-in-Ok-Parts.rules.items
+    c.in_ok-more-in-Ok-Parts.more.items all.items
+    are c.in_ok-rules-in-Ok-Parts.ensures.ok c.in_ok-more-in-Ok-Parts.ensures.ok is)
     c.both.ensures.ok
