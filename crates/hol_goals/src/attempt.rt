@@ -147,10 +147,7 @@ impl Attempt {
             Stage::Underway(opening) => turned(alloc, opening, turns % opening.goals.len()),
             Stage::Proved(_) => return Err(Fault::NoGoal),
         };
-        let turned = match turned {
-            Ok(turned) => turned,
-            Err(fault) => return Err(fault),
-        };
+        let turned = turned?;
         self.advance(Stage::Underway(turned))
     }
 

@@ -36,9 +36,6 @@ pub fn closed(
     if !achieves(recorder, theorem, goal) {
         return Err(Fault::InvalidStep);
     }
-    let same = match recorder.refl(alloc, &goal.concl) {
-        Ok(same) => same,
-        Err(fault) => return Err(fault),
-    };
+    let same = recorder.refl(alloc, &goal.concl)?;
     recorder.eq_mp(alloc, &same, theorem)
 }

@@ -64,10 +64,8 @@ impl Attempt {
     {
         let Step { goals, just } = step;
         let count = goals.len();
-        match self.advance(Stage::Underway(Opening { goals, just })) {
-            Ok(()) => Ok(Expansion::Open(count)),
-            Err(fault) => Err(fault),
-        }
+        self.advance(Stage::Underway(Opening { goals, just }))?;
+        Ok(Expansion::Open(count))
     }
 
     // Keeps the theorem of the goal as the next stage.
@@ -75,14 +73,9 @@ impl Attempt {
         ensures reaches { Reaches (attempt_of self.old) (attempt_of self.new) (states.proved theorem.theorem) result }
         ensures made { (journal : Journal) → IsMade journal theorem → IsAttemptMade journal self.old → IsAttemptMade journal self.new }
     {
-        let told = match theorem.copy(alloc) {
-            Ok(told) => told,
-            Err(fault) => return Err(fault),
-        };
-        match self.advance(Stage::Proved(theorem)) {
-            Ok(()) => Ok(Expansion::NoSubgoals(told)),
-            Err(fault) => Err(fault),
-        }
+        let told = theorem.copy(alloc)?;
+        self.advance(Stage::Proved(theorem))?;
+        Ok(Expansion::NoSubgoals(told))
     }
 
     // Proves the goal by a justification without subgoals.
@@ -101,10 +94,7 @@ impl Attempt {
         ensures extends { P.extends prover.old prover.new }
         ensures made { IsAttemptMade (P.journal prover.old) self.old → IsAttemptMade (P.journal prover.new) self.new }
     {
-        let theorem = match prover.prove(alloc, &self.goal, just) {
-            Ok(theorem) => theorem,
-            Err(fault) => return Err(fault),
-        };
+        let theorem = prover.prove(alloc, &self.goal, just)?;
         self.conclude(alloc, theorem)
     }
 
@@ -124,10 +114,7 @@ impl Attempt {
         ensures extends { P.extends prover.old prover.new }
         ensures made { IsAttemptMade (P.journal prover.old) self.old → IsAttemptMade (P.journal prover.new) self.new }
     {
-        let step = match self.refined(alloc, refinement) {
-            Ok(step) => step,
-            Err(fault) => return Err(fault),
-        };
+        let step = self.refined(alloc, refinement)?;
         if step.goals.is_empty() {
             return self.finish(alloc, prover, &step.just);
         }

@@ -35,9 +35,6 @@ pub(crate) fn refined(alloc: Global, opening: &Opening, refinement: Step) -> Res
     append_goals(alloc, &mut goals, &refinement.goals)?;
     append_goals(alloc, &mut goals, others)?;
     let parts = and_untouched(alloc, refinement, others)?;
-    let just = match splice(alloc, &opening.just, &parts) {
-        Ok(just) => just,
-        Err(fault) => return Err(fault),
-    };
+    let just = splice(alloc, &opening.just, &parts)?;
     Ok(Step { goals, just })
 }

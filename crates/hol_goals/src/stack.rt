@@ -79,10 +79,7 @@ fn begun(alloc: Global, term: &Term) -> Result<Attempt, Fault>
 fn decided(answer: Result<Thm, Fault>) -> Result<(), Fault>
     ensures { (outcome : Result states.Proof Fault) (proof : states.Proof) → IsDecided outcome proof answer → IsDecided outcome proof result }
 {
-    let _theorem = match answer {
-        Ok(theorem) => theorem,
-        Err(fault) => return Err(fault),
-    };
+    let _theorem = answer?;
     Ok(())
 }
 
@@ -138,17 +135,10 @@ impl Stack {
         ensures outcome { Changes result (states.set_outcome recorder.now.theory term.now) (states.set_stack (stack_of self.old)) (stack_of self.old) (stack_of self.new) }
         ensures made { (journal : Journal) → KeepsMade journal self.old → KeepsMade journal self.new }
     {
-        match settable(alloc, recorder, term) {
-            Ok(()) => {}
-            Err(fault) => return Err(fault),
-        }
-        match begun(alloc, term) {
-            Ok(attempt) => {
-                self.attempt = Some(attempt);
-                Ok(())
-            }
-            Err(fault) => Err(fault),
-        }
+        settable(alloc, recorder, term)?;
+        let attempt = begun(alloc, term)?;
+        self.attempt = Some(attempt);
+        Ok(())
     }
 
     /// Takes the last change of the proof back: the stage before it is at hand again.
@@ -291,10 +281,7 @@ impl Stack {
         ensures stays { StaysMade (P.journal prover.old) (P.journal prover.new) }
         ensures extends { P.extends prover.old prover.new }
     {
-        let goal = match self.focus() {
-            Ok(goal) => goal,
-            Err(fault) => return Err(fault),
-        };
+        let goal = self.focus()?;
         refine_goal(alloc, tac, goal, host, prover, fuel)
     }
 
@@ -330,10 +317,7 @@ impl Stack {
         ensures extends { P.extends prover.old prover.new }
         ensures made { KeepsMade (P.journal prover.old) self.old → KeepsMade (P.journal prover.new) self.new }
     {
-        let refinement = match self.refine_first(alloc, prover, tac, host, fuel) {
-            Ok(refinement) => refinement,
-            Err(fault) => return Err(fault),
-        };
+        let refinement = self.refine_first(alloc, prover, tac, host, fuel)?;
         self.expand_by(alloc, prover, refinement)
     }
 }

@@ -84,9 +84,6 @@ pub(crate) fn turned(alloc: Global, opening: &Opening, turns: usize) -> Result<O
 {
     let goals = turned_goals(alloc, &opening.goals, turns)?;
     let steps = turning_steps(alloc, &opening.goals, turns)?;
-    let just = match splice(alloc, &opening.just, &steps) {
-        Ok(just) => just,
-        Err(fault) => return Err(fault),
-    };
+    let just = splice(alloc, &opening.just, &steps)?;
     Ok(Opening { goals, just })
 }

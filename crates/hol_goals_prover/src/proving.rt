@@ -24,16 +24,13 @@ pub fn prove(library: &mut Library, alloc: Global, goal: &Goal, just: &Just) -> 
 {
     journals_grow();
     libraries_continue();
-    let theorem = match replay(
+    let theorem = replay(
         &mut library.recorder,
         alloc,
         &library.logic,
         &library.store,
         just,
         &[],
-    ) {
-        Ok(theorem) => theorem,
-        Err(fault) => return Err(fault),
-    };
+    )?;
     closed(&mut library.recorder, alloc, goal, &theorem)
 }

@@ -36,10 +36,8 @@ pub(crate) fn conv_tac<H: Refiners, C: Conversions>(
     ensures library { IsLibrary library.new }
     ensures extended { IsExtended library.old library.new }
 {
-    match conversions.apply(library, alloc, hosts, conv, &goal.concl, fuel) {
-        Ok(theorem) => by_equation(library, alloc, goal, theorem),
-        Err(fault) => Err(fault),
-    }
+    let theorem = conversions.apply(library, alloc, hosts, conv, &goal.concl, fuel)?;
+    by_equation(library, alloc, goal, theorem)
 }
 
 /// REWRITE_TAC: the goal by what rewriting with the theorems of the names, from the top down, proves of its target.
@@ -59,12 +57,7 @@ pub(crate) fn rewrite_tac<H: Refiners, C: Conversions>(
     ensures library { IsLibrary library.new }
     ensures extended { IsExtended library.old library.new }
 {
-    let rules = match rules_named(library, alloc, names) {
-        Ok(rules) => rules,
-        Err(fault) => return Err(fault),
-    };
-    match conversions.rewrite(library, alloc, hosts, &rules, &goal.concl, fuel) {
-        Ok(theorem) => by_equation(library, alloc, goal, theorem),
-        Err(fault) => Err(fault),
-    }
+    let rules = rules_named(library, alloc, names)?;
+    let theorem = conversions.rewrite(library, alloc, hosts, &rules, &goal.concl, fuel)?;
+    by_equation(library, alloc, goal, theorem)
 }

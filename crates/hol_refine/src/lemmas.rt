@@ -91,14 +91,9 @@ pub(crate) fn by_equation(
     if !are_assumed(theorem.theorem().hyps(), goal) {
         return Err(Fault::RefineFails);
     }
-    let step = match step_by_equation(library, alloc, goal, &theorem) {
-        Ok(step) => step,
-        Err(fault) => return Err(fault),
-    };
-    match add_lemma(library, theorem) {
-        Ok(()) => Ok(step),
-        Err(fault) => Err(fault),
-    }
+    let step = step_by_equation(library, alloc, goal, &theorem)?;
+    add_lemma(library, theorem)?;
+    Ok(step)
 }
 
 /// The step that closes a goal by a theorem, which becomes a lemma. Refused, where the store stays: Memory.
@@ -110,12 +105,7 @@ pub(crate) fn by_theorem(library: &mut Library, alloc: Global, theorem: Rec) -> 
     ensures extended { IsExtended library.old library.new }
 {
     made_is_proved(library, &theorem);
-    let step = match step_by_theorem(library, alloc) {
-        Ok(step) => step,
-        Err(fault) => return Err(fault),
-    };
-    match add_lemma(library, theorem) {
-        Ok(()) => Ok(step),
-        Err(fault) => Err(fault),
-    }
+    let step = step_by_theorem(library, alloc)?;
+    add_lemma(library, theorem)?;
+    Ok(step)
 }

@@ -38,10 +38,7 @@ pub(crate) fn theorems_named(
             Some(theorem) => theorem,
             None => return Err(Fault::UnknownName),
         };
-        match add_copy(alloc, &mut all, theorem) {
-            Ok(()) => {}
-            Err(fault) => return Err(fault),
-        }
+        add_copy(alloc, &mut all, theorem)?;
     }
     Ok(all)
 }

@@ -50,14 +50,8 @@ fn rules_of_all(library: &mut Library, alloc: Global, all: &[Rec]) -> Result<Vec
 {
     let mut rules = Vec::new(alloc);
     for theorem in all {
-        let more = match rules_of_one(library, alloc, theorem) {
-            Ok(more) => more,
-            Err(fault) => return Err(fault),
-        };
-        match add_rules(&mut rules, more) {
-            Ok(()) => {}
-            Err(fault) => return Err(fault),
-        }
+        let more = rules_of_one(library, alloc, theorem)?;
+        add_rules(&mut rules, more)?;
     }
     Ok(rules)
 }
@@ -76,10 +70,7 @@ pub(crate) fn rules_named(
     ensures ok { IfOk result (λ rules. AreNamedRules (store_in library.old) (map string_bytes names.now) (theorems rules.items)) }
     ensures err { IfErr result (λ fault. (fault ≡ Memory) ⊎ IsRefusedBefore (store_in library.old) (rewrite_tac (map string_bytes names.now)) fault) }
 {
-    let theorems = match theorems_named(alloc, &library.store, names) {
-        Ok(theorems) => theorems,
-        Err(fault) => return Err(fault),
-    };
+    let theorems = theorems_named(alloc, &library.store, names)?;
     match rules_of_all(library, alloc, &theorems) {
         Ok(rules) => Ok(rules),
         Err(fault) => Err(fault),

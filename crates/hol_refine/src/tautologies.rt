@@ -36,8 +36,6 @@ pub(crate) fn taut_tac(library: &mut Library, alloc: Global, goal: &Goal) -> Res
     ensures library { IsLibrary library.new }
     ensures extended { IsExtended library.old library.new }
 {
-    match tautology(library, alloc, &goal.concl) {
-        Ok(theorem) => by_theorem(library, alloc, theorem),
-        Err(fault) => Err(fault),
-    }
+    let theorem = tautology(library, alloc, &goal.concl)?;
+    by_theorem(library, alloc, theorem)
 }

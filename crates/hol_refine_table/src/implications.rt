@@ -43,14 +43,8 @@ fn connective(alloc: Global) -> Result<Term, Fault>
 fn implies(alloc: Global, p: &Term, q: &Term) -> Result<Term, Fault>
     ensures { type_of p.now ≡ Some bool_type → type_of q.now ≡ Some bool_type → AnswersImplication result p.now q.now }
 {
-    let connective = match connective(alloc) {
-        Ok(connective) => connective,
-        Err(fault) => return Err(fault),
-    };
-    let half = match Term::mk_comb(alloc, &connective, p) {
-        Ok(half) => half,
-        Err(fault) => return Err(fault),
-    };
+    let connective = connective(alloc)?;
+    let half = Term::mk_comb(alloc, &connective, p)?;
     Term::mk_comb(alloc, &half, q)
 }
 
@@ -58,14 +52,8 @@ fn implies(alloc: Global, p: &Term, q: &Term) -> Result<Term, Fault>
 fn implied(alloc: Global, name: &str, conclusion: &Term, goal: &Goal) -> Result<Step, Fault>
     ensures { type_of conclusion.now ≡ Some bool_type → type_of goal.now.concl ≡ Some bool_type → AnswersStep (stated.implied (goal_of goal.now) name.now conclusion.now) (step_in result) }
 {
-    let implication = match implies(alloc, conclusion, &goal.concl) {
-        Ok(implication) => implication,
-        Err(fault) => return Err(fault),
-    };
-    let just = match with_theorem(alloc, Rule::Mp, name) {
-        Ok(just) => just,
-        Err(fault) => return Err(fault),
-    };
+    let implication = implies(alloc, conclusion, &goal.concl)?;
+    let just = with_theorem(alloc, Rule::Mp, name)?;
     to_target(alloc, goal, &implication, just)
 }
 
@@ -108,18 +96,9 @@ fn without(alloc: Global, p: &Term, terms: &[Term]) -> Result<Vec<Term>, Fault>
 fn undischarged(alloc: Global, p: &Term, goal: &Goal) -> Result<Step, Fault>
     ensures { type_of p.now ≡ Some bool_type → type_of goal.now.concl ≡ Some bool_type → AnswersStep (stated.undischarged (goal_of goal.now) p.now) (step_in result) }
 {
-    let implication = match implies(alloc, p, &goal.concl) {
-        Ok(implication) => implication,
-        Err(fault) => return Err(fault),
-    };
-    let just = match by_first(alloc, Rule::Undisch) {
-        Ok(just) => just,
-        Err(fault) => return Err(fault),
-    };
-    let asms = match without(alloc, p, &goal.asms) {
-        Ok(asms) => asms,
-        Err(fault) => return Err(fault),
-    };
+    let implication = implies(alloc, p, &goal.concl)?;
+    let just = by_first(alloc, Rule::Undisch)?;
+    let asms = without(alloc, p, &goal.asms)?;
     let subgoal = Goal {
         asms,
         concl: implication,
@@ -160,18 +139,9 @@ pub(crate) fn both_ways(
     requires fits { nameless_within_limits (image (implication left.now right.now)) ≡ true }
     ensures { AnswersStep (stated.both_ways (goal_of goal.now) left.now right.now) (step_in result) }
 {
-    let there = match implies(alloc, left, right) {
-        Ok(there) => there,
-        Err(fault) => return Err(fault),
-    };
-    let back = match implies(alloc, right, left) {
-        Ok(back) => back,
-        Err(fault) => return Err(fault),
-    };
-    let just = match by_both_ways(alloc) {
-        Ok(just) => just,
-        Err(fault) => return Err(fault),
-    };
+    let there = implies(alloc, left, right)?;
+    let back = implies(alloc, right, left)?;
+    let just = by_both_ways(alloc)?;
     to_targets(alloc, goal, &there, &back, just)
 }
 

@@ -66,22 +66,12 @@ pub(crate) fn instance(
     requires typed { type_of argument.now ≡ Some ty.now }
     ensures { AnswersInstance result (body_with (abstracted name.now ty.now body.now) argument.now) }
 {
-    let new = match argument.copy(alloc) {
-        Ok(new) => new,
-        Err(fault) => return Err(fault),
-    };
-    let old = match variable_of(alloc, name, ty) {
-        Ok(old) => old,
-        Err(fault) => return Err(fault),
-    };
+    let new = argument.copy(alloc)?;
+    let old = variable_of(alloc, name, ty)?;
     let _body_type = body.ty();
-    match vsubst(alloc, &[(new, old)], body) {
-        Ok(made) => {
-            made.well_formed();
-            Ok(made)
-        }
-        Err(fault) => Err(fault),
-    }
+    let made = vsubst(alloc, &[(new, old)], body)?;
+    made.well_formed();
+    Ok(made)
 }
 
 /// The body under another name for the variable: itself where the name is the same.
@@ -102,9 +92,6 @@ pub(crate) fn renamed(
     if fresh == name {
         return body.copy(alloc);
     }
-    let new = match variable_of(alloc, fresh, ty) {
-        Ok(new) => new,
-        Err(fault) => return Err(fault),
-    };
+    let new = variable_of(alloc, fresh, ty)?;
     instance(alloc, name, ty, body, &new)
 }

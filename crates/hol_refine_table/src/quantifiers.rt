@@ -47,14 +47,8 @@ fn witnessed(
     requires typed { type_of witness.now ≡ Some ty.now }
     ensures { AnswersStep (stated.witnessed (goal_of goal.now) (abstracted name.now ty.now body.now) witness.now) (step_in result) }
 {
-    let instance = match instance(alloc, name, ty, body, witness) {
-        Ok(instance) => instance,
-        Err(fault) => return Err(fault),
-    };
-    let just = match by_exists(alloc, &goal.concl, witness) {
-        Ok(just) => just,
-        Err(fault) => return Err(fault),
-    };
+    let instance = instance(alloc, name, ty, body, witness)?;
+    let just = by_exists(alloc, &goal.concl, witness)?;
     to_stated(alloc, goal, instance, just)
 }
 
@@ -104,14 +98,8 @@ fn generalized(
     requires fresh { is_identifier fresh.now ≡ true }
     ensures { AnswersStep (stated.generalized (goal_of goal.now) (abstracted name.now ty.now body.now) fresh.now) (step_in result) }
 {
-    let instance = match renamed(alloc, name, ty, body, fresh) {
-        Ok(instance) => instance,
-        Err(fault) => return Err(fault),
-    };
-    let just = match by_gen(alloc, fresh, ty) {
-        Ok(just) => just,
-        Err(fault) => return Err(fault),
-    };
+    let instance = renamed(alloc, name, ty, body, fresh)?;
+    let just = by_gen(alloc, fresh, ty)?;
     to_stated(alloc, goal, instance, just)
 }
 
@@ -122,10 +110,7 @@ pub(crate) fn gen_tac(alloc: Global, theory: &Theory, goal: &Goal) -> Result<Ste
 {
     match quantified_parts(&goal.concl, "!") {
         Some(parts) => {
-            let fresh = match fresh_name(alloc, theory, goal, parts.name) {
-                Ok(fresh) => fresh,
-                Err(fault) => return Err(fault),
-            };
+            let fresh = fresh_name(alloc, theory, goal, parts.name)?;
             generalized(
                 alloc,
                 goal,
@@ -160,14 +145,8 @@ fn chosen(
     requires fresh { is_identifier fresh.now ≡ true }
     ensures { AnswersStep (stated.chosen (goal_of goal.now) theorem.now (abstracted parts.entry.name.now parts.entry.ty.now parts.entry.body.now) fresh.now) (step_in result) }
 {
-    let instance = match renamed(alloc, parts.name, parts.ty, parts.body, fresh) {
-        Ok(instance) => instance,
-        Err(fault) => return Err(fault),
-    };
-    let just = match by_choose(alloc, theorem, fresh, parts.ty) {
-        Ok(just) => just,
-        Err(fault) => return Err(fault),
-    };
+    let instance = renamed(alloc, parts.name, parts.ty, parts.body, fresh)?;
+    let just = by_choose(alloc, theorem, fresh, parts.ty)?;
     to_assuming_stated(alloc, goal, instance, just)
 }
 
@@ -189,12 +168,7 @@ fn chosen_from(
             if !are_assumed(hypotheses, goal) {
                 return Err(Fault::RefineFails);
             }
-            let fresh = match fresh_name_beside(
-                alloc, theory, goal, parts.ty, conclusion, parts.name,
-            ) {
-                Ok(fresh) => fresh,
-                Err(fault) => return Err(fault),
-            };
+            let fresh = fresh_name_beside(alloc, theory, goal, parts.ty, conclusion, parts.name)?;
             chosen(alloc, goal, name, parts, fresh.as_str())
         }
         None => Err(Fault::BadShape),

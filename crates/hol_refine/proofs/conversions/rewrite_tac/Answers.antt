@@ -13,52 +13,55 @@ use Rattle.hol_refine.proofs.NamedEquations.{named-are-equations}
 use Rattle.hol_refine.proofs.Posed.{target-known}
 use Rattle.hol_refine.proofs.SpentSteps.{converts-before}
 use Rattle.hol_refine.proofs.Running.{by-conversion, not-converted, not-begun}
+use Rattle.hol_equal.proofs.StepLemmas.{passed_on}
 use Rattle.hol_refine.proofs.conversions.rewrite_tac.Goals as goal
 
 pub rewrite-requires-clause-known : goal.rewrite-requires-clause-known
-rewrite-requires-clause-known g c = rw c.in-Ok.ensures.continued.theory (target-known c.args.library.now.recorder.theory (goal_of c.args.goal.now) c.requires.known)
+rewrite-requires-clause-known g c = rw c.in_ok-rules.ensures.continued.theory (target-known c.args.library.now.recorder.theory (goal_of c.args.goal.now) c.requires.known)
 
 pub rewrite-requires-clause-equations : goal.rewrite-requires-clause-equations
 rewrite-requires-clause-equations g c =
-    rw c.deref.ensures.value (named-are-equations (store_in c.args.library.now) (map string_bytes c.args.names.now) (theorems c.in-Ok.rules.items) c.in-Ok.ensures.ok)
+    rw c.deref.ensures.value (named-are-equations (store_in c.args.library.now) (map string_bytes c.args.names.now) (theorems c.in_ok-rules.rules.items) c.in_ok-rules.ensures.ok)
 
 pub by_equation-requires-clause-equation : goal.by_equation-requires-clause-equation
 by_equation-requires-clause-equation g c =
     conversions-answer-equations (g.H.Converters.conversions c.args.hosts.now) c.rules_named.new.library.recorder.theory
     (store_in c.rules_named.new.library) 0 c.args.fuel.now.left c.rewrite.new.fuel.left
-    (top_depth_conv (rules_conv (theorems c.deref.result.now))) c.args.goal.now.concl c.in-Ok-rewrite.theorem.theorem c.in-Ok-rewrite.ensures.outcome
+    (top_depth_conv (rules_conv (theorems c.deref.result.now))) c.args.goal.now.concl c.in_ok-theorem.theorem.theorem c.in_ok-theorem.ensures.outcome
 
-pub returns-in-Err-clause-outcome : goal.returns-in-Err-clause-outcome
-returns-in-Err-clause-outcome g c =
-    not-begun c.args.library.now.recorder.theory (host_of (g.H.Refiners.refiners c.args.hosts.now) (g.H.Converters.conversions c.args.hosts.now))
-    (store_in c.args.library.now) (store_in c.rules_named.new.library) c.args.fuel.now.left (refiners.rewrite_tac (map string_bytes c.args.names.now)) (goal_of c.args.goal.now) c.in-Err.fault
-    c.in-Err.ensures.err (store-same _ _ c.in-Err.ensures.continued)
+pub returns-in_err-rules-clause-outcome : goal.returns-in_err-rules-clause-outcome
+returns-in_err-rules-clause-outcome g c =
+    rw (passed_on c.from_residual.result c.in_err-rules.field-0.0 c.from_residual.ensures.1)
+    (not-begun c.args.library.now.recorder.theory (host_of (g.H.Refiners.refiners c.args.hosts.now) (g.H.Converters.conversions c.args.hosts.now))
+    (store_in c.args.library.now) (store_in c.rules_named.new.library) c.args.fuel.now.left (refiners.rewrite_tac (map string_bytes c.args.names.now)) (goal_of c.args.goal.now) c.in_err-rules.field-0.0
+    c.in_err-rules.ensures.err (store-same _ _ c.in_err-rules.ensures.continued))
 
-pub returns-in-Ok-rewrite-clause-outcome : goal.returns-in-Ok-rewrite-clause-outcome
-returns-in-Ok-rewrite-clause-outcome g c =
-    let begun = c.in-Ok.ensures.continued in
-    let done = c.in-Ok-rewrite.ensures.continued in
-    let rules = c.in-Ok.ensures.ok in
+pub returns-clause-outcome : goal.returns-clause-outcome
+returns-clause-outcome g c =
+    let begun = c.in_ok-rules.ensures.continued in
+    let done = c.in_ok-theorem.ensures.continued in
+    let rules = c.in_ok-rules.ensures.ok in
     let run = converts-before c.args.library.now.recorder.theory c.rules_named.new.library.recorder.theory (store_in c.args.library.now) (store_in c.rules_named.new.library)
     (g.H.Converters.conversions c.args.hosts.now) c.args.fuel.now.left c.rewrite.new.fuel.left (top_depth_conv (rules_conv (theorems c.deref.result.now))) c.args.goal.now.concl
     (theorem_in c.rewrite.result) begun.theory (store-same _ _ begun) c.rewrite.ensures.outcome in
     by-conversion c.args.library.now.recorder.theory (host_of (g.H.Refiners.refiners c.args.hosts.now) (g.H.Converters.conversions c.args.hosts.now))
     (store_in c.args.library.now) (store_in c.rewrite.new.library) (store_in c.by_equation.new.library) c.rewrite.new.library.recorder.theory c.args.fuel.now.left c.rewrite.new.fuel.left
-    (refiners.rewrite_tac (map string_bytes c.args.names.now)) (goal_of c.args.goal.now) (top_depth_conv (rules_conv (theorems c.in-Ok.rules.items))) c.in-Ok-rewrite.theorem.theorem
+    (refiners.rewrite_tac (map string_bytes c.args.names.now)) (goal_of c.args.goal.now) (top_depth_conv (rules_conv (theorems c.in_ok-rules.rules.items))) c.in_ok-theorem.theorem.theorem
     (step_in c.by_equation.result)
-    (rules.found, theorems c.in-Ok.rules.items, rules.named, rules.are_rules, refl) (rw (c.deref.ensures.value, c.in-Ok-rewrite.is) at run)
+    (rules.found, theorems c.in_ok-rules.rules.items, rules.named, rules.are_rules, refl) (rw (c.deref.ensures.value, c.in_ok-theorem.was) at run)
     (store-same _ _ done ∙ store-same _ _ begun) (done.theory ∙ begun.theory) c.by_equation.ensures.outcome
 
-pub returns-clause-outcome : goal.returns-clause-outcome
-returns-clause-outcome g c =
-    let begun = c.in-Ok.ensures.continued in
-    let done = c.in-Err-rewrite.ensures.continued in
-    let rules = c.in-Ok.ensures.ok in
+pub returns-in_err-theorem-clause-outcome : goal.returns-in_err-theorem-clause-outcome
+returns-in_err-theorem-clause-outcome g c =
+    let begun = c.in_ok-rules.ensures.continued in
+    let done = c.in_err-theorem.ensures.continued in
+    let rules = c.in_ok-rules.ensures.ok in
     let run = converts-before c.args.library.now.recorder.theory c.rules_named.new.library.recorder.theory (store_in c.args.library.now) (store_in c.rules_named.new.library)
     (g.H.Converters.conversions c.args.hosts.now) c.args.fuel.now.left c.rewrite.new.fuel.left (top_depth_conv (rules_conv (theorems c.deref.result.now))) c.args.goal.now.concl
     (theorem_in c.rewrite.result) begun.theory (store-same _ _ begun) c.rewrite.ensures.outcome in
-    not-converted c.args.library.now.recorder.theory (host_of (g.H.Refiners.refiners c.args.hosts.now) (g.H.Converters.conversions c.args.hosts.now))
+    rw (passed_on c.from_residual-in_err-theorem.result c.in_err-theorem.field-0.0 c.from_residual-in_err-theorem.ensures.1)
+    (not-converted c.args.library.now.recorder.theory (host_of (g.H.Refiners.refiners c.args.hosts.now) (g.H.Converters.conversions c.args.hosts.now))
     (store_in c.args.library.now) (store_in c.rewrite.new.library) c.args.fuel.now.left c.rewrite.new.fuel.left
-    (refiners.rewrite_tac (map string_bytes c.args.names.now)) (goal_of c.args.goal.now) (top_depth_conv (rules_conv (theorems c.in-Ok.rules.items))) c.in-Err-rewrite.fault
-    (rules.found, theorems c.in-Ok.rules.items, rules.named, rules.are_rules, refl) (rw (c.deref.ensures.value, c.in-Err-rewrite.is) at run)
-    (store-same _ _ done ∙ store-same _ _ begun)
+    (refiners.rewrite_tac (map string_bytes c.args.names.now)) (goal_of c.args.goal.now) (top_depth_conv (rules_conv (theorems c.in_ok-rules.rules.items))) c.in_err-theorem.field-0.0
+    (rules.found, theorems c.in_ok-rules.rules.items, rules.named, rules.are_rules, refl) (rw (c.deref.ensures.value, c.in_err-theorem.was) at run)
+    (store-same _ _ done ∙ store-same _ _ begun))

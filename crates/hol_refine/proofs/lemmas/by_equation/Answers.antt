@@ -3,8 +3,8 @@ use Rattle.hol_just.specs.Steps.{goal_of}
 use Rattle.hol_laws_refiners.proofs.Equations.{equations-of-targets}
 use Rattle.hol_refine.proofs.lemmas.by_equation.Goals as goal
 
-pub returns-in-Ok-add_lemma-clause-outcome : goal.returns-in-Ok-add_lemma-clause-outcome
-returns-in-Ok-add_lemma-clause-outcome c =
+pub returns-clause-outcome : goal.returns-clause-outcome
+returns-clause-outcome c =
     let held = sym c.are_assumed.ensures ∙ c.if-not-are_assumed.false in
     let proved = c.made_is_proved.ensures in
     record {
@@ -13,6 +13,6 @@ returns-in-Ok-add_lemma-clause-outcome c =
       sides = c.requires.equation.sides;
       is_equation = c.requires.equation.is_equation;
       equates = equations-of-targets c.args.library.now.recorder.theory (goal_of c.args.goal.now) c.args.theorem.theorem c.theory_is_legal.ensures c.requires.known proved c.requires.equation;
-      is_step = c.in-Ok.ensures c.requires.equation.sides c.requires.equation.is_equation;
-      stored = c.in-Ok-add_lemma.ensures.ok;
+      is_step = c.in_ok-step.ensures c.requires.equation.sides c.requires.equation.is_equation;
+      stored = c.in_ok-add_lemma.ensures.ok;
     }

@@ -2,16 +2,19 @@ use Rattle.std.proofs.Common.{map, string_bytes}
 use Rattle.hol_prelude_derivations.specs.Derivations.{theorems}
 use Rattle.hol_theorem_library.specs.Library.{store_in}
 use Rattle.hol_refine.proofs.Refusals.{no-names, no-rules}
+use Rattle.hol_equal.proofs.StepLemmas.{passed_on}
 use Rattle.hol_refine.proofs.rules.rules_named.Goals as goal
 
-pub returns-in-Err-clause-err : goal.returns-in-Err-clause-err
-returns-in-Err-clause-err c = no-names (store_in c.args.library.now) (map string_bytes c.args.names.now) c.in-Err.fault c.in-Err.ensures.err
+pub returns-in_err-theorems-clause-err : goal.returns-in_err-theorems-clause-err
+returns-in_err-theorems-clause-err c =
+    rw (passed_on c.from_residual.result c.in_err-theorems.field-0.0 c.from_residual.ensures.1)
+    (no-names (store_in c.args.library.now) (map string_bytes c.args.names.now) c.in_err-theorems.field-0.0 c.in_err-theorems.ensures.err)
 
-pub returns-in-Ok-rules_of_all-clause-ok : goal.returns-in-Ok-rules_of_all-clause-ok
-returns-in-Ok-rules_of_all-clause-ok c =
-    record { found = theorems c.in-Ok.theorems.items; named = c.in-Ok.ensures.ok; are_rules = rw c.deref.ensures.value at c.in-Ok-rules_of_all.ensures.ok }
+pub returns-in-Ok-clause-ok : goal.returns-in-Ok-clause-ok
+returns-in-Ok-clause-ok c =
+    record { found = theorems c.in_ok-theorems.theorems.items; named = c.in_ok-theorems.ensures.ok; are_rules = rw c.deref.ensures.value at c.in-Ok.ensures.ok }
 
 pub returns-clause-err : goal.returns-clause-err
 returns-clause-err c =
-    no-rules (store_in c.args.library.now) (map string_bytes c.args.names.now) (theorems c.in-Ok.theorems.items) c.in-Err-rules_of_all.fault c.in-Ok.ensures.ok
-    (rw c.deref.ensures.value at c.in-Err-rules_of_all.ensures.err)
+    no-rules (store_in c.args.library.now) (map string_bytes c.args.names.now) (theorems c.in_ok-theorems.theorems.items) c.in-Err.fault c.in_ok-theorems.ensures.ok
+    (rw c.deref.ensures.value at c.in-Err.ensures.err)

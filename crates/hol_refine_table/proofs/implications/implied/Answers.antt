@@ -17,6 +17,6 @@ returns c p_typed q_typed =
     let tree = trees.by_rule rule_mp (two_parts from_first (trees.named c.args.name.now)) in
     let whole = implication c.args.conclusion.now c.args.goal.now.concl in
     fitting (nameless_within_limits (image whole)) (record { goals = toward (goal_of c.args.goal.now) (named whole) ∷ []; justification = tree }) (step_in c.to_target.result)
-    (c.in-Ok.ensures p_typed q_typed).0
-    (subst (λ (t : NamedTerm). AnswersStep (leaves (toward (goal_of c.args.goal.now) (named t) ∷ []) tree) (step_in c.to_target.result)) (c.in-Ok.ensures p_typed q_typed).1
-    (c.to_target.ensures tree c.in-Ok-with_theorem.ensures))
+    (c.in_ok-implication.ensures p_typed q_typed).0
+    (subst (λ (t : NamedTerm). AnswersStep (leaves (toward (goal_of c.args.goal.now) (named t) ∷ []) tree) (step_in c.to_target.result)) (c.in_ok-implication.ensures p_typed q_typed).1
+    (c.to_target.ensures tree c.in_ok-just.ensures))

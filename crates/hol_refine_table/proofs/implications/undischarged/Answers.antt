@@ -18,10 +18,10 @@ returns c p_typed q_typed =
     let tree = by_rule rule_undisch (one_part from_first) in
     let whole = implication c.args.p.now c.args.goal.now.concl in
     let others = without_hypothesis c.args.p.now c.args.goal.now.asms.items in
-    let left : c.in-Ok-without.asms.items ≡ others = c.in-Ok-without.ensures.ok ∙ ap (without_hypothesis c.args.p.now) c.deref.ensures.value in
+    let left : c.in_ok-asms.asms.items ≡ others = c.in_ok-asms.ensures.ok ∙ ap (without_hypothesis c.args.p.now) c.deref.ensures.value in
     fitting (nameless_within_limits (image whole)) (record { goals = from_assumptions others [] (named whole) ∷ []; justification = tree }) (step_in c.to_one.result)
-    (c.in-Ok.ensures p_typed q_typed).0
+    (c.in_ok-implication.ensures p_typed q_typed).0
     (c.to_one.ensures (from_assumptions others [] (named whole)) tree
-    (subst (λ (a : List NamedTerm). IsGoal (from_assumptions a [] (named whole)) (record { assumptions = c.in-Ok-without.asms.items; target = c.in-Ok.implication })) left
-    (with_target c.in-Ok-without.asms.items c.in-Ok.implication (named whole) (c.in-Ok.ensures p_typed q_typed).1))
-    c.in-Ok-by_first.ensures)
+    (subst (λ (a : List NamedTerm). IsGoal (from_assumptions a [] (named whole)) (record { assumptions = c.in_ok-asms.asms.items; target = c.in_ok-implication.implication })) left
+    (with_target c.in_ok-asms.asms.items c.in_ok-implication.implication (named whole) (c.in_ok-implication.ensures p_typed q_typed).1))
+    c.in_ok-just.ensures)

@@ -1,14 +1,17 @@
 use Rattle.std.proofs.Common.{◌∙◌}
+use Rattle.std.proofs.lemmas.Result.{err_from_is_err_and}
 use Rattle.hol_refine_table.proofs.Instances.{instance-made, instance-refused}
 use Rattle.hol_refine_table.proofs.quantified.instance.Goals as goal
 
-pub returns-in-Ok-vsubst : goal.returns-in-Ok-vsubst
-returns-in-Ok-vsubst c =
-    instance-made c.args.argument.now c.args.body.now c.in-Ok.new c.in-Ok-variable_of.old c.args.name.now c.args.ty.now c.ty-body_type.result.now c.requires.typed c.ty-body_type.ensures
-    c.in-Ok.ensures.ok c.in-Ok-variable_of.ensures.ok c.in-Ok-vsubst.made c.ty-body_type.result.now (c.in-Ok-vsubst.ensures.typed ∙ c.ty-body_type.ensures)
-    c.well_formed-in-Ok-vsubst.ensures.within_limits c.in-Ok-vsubst.ensures.outcome.1
-
 pub returns : goal.returns
 returns c =
-    instance-refused c.args.argument.now c.args.body.now c.in-Ok.new c.in-Ok-variable_of.old c.args.name.now c.args.ty.now c.ty-body_type.result.now c.requires.typed c.ty-body_type.ensures
-    c.in-Ok.ensures.ok c.in-Ok-variable_of.ensures.ok c.in-Err-vsubst.fault c.in-Err-vsubst.ensures.outcome
+    instance-made c.args.argument.now c.args.body.now c.in_ok-new.new c.in_ok-old.old c.args.name.now c.args.ty.now c.ty-body_type.result.now c.requires.typed c.ty-body_type.ensures
+    c.in_ok-new.ensures.ok c.in_ok-old.ensures.ok c.in_ok-made.made c.ty-body_type.result.now (c.in_ok-made.ensures.typed ∙ c.ty-body_type.ensures)
+    c.well_formed-2.ensures.within_limits c.in_ok-made.ensures.outcome.1
+
+pub returns-in_err-made : goal.returns-in_err-made
+returns-in_err-made c =
+    let p = err_from_is_err_and c.from_residual-in_err-made.result c.from_residual-in_err-made.ensures.1 in
+    rw (p.1, p.2)
+    (instance-refused c.args.argument.now c.args.body.now c.in_ok-new.new c.in_ok-old.old c.args.name.now c.args.ty.now c.ty-body_type.result.now c.requires.typed c.ty-body_type.ensures
+    c.in_ok-new.ensures.ok c.in_ok-old.ensures.ok c.in_err-made.field-0.0 c.in_err-made.ensures.outcome)

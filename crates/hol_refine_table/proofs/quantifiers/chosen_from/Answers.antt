@@ -15,9 +15,9 @@ returns-then-not-are_assumed c store is =
     c.hyps-hypotheses.ensures.value c.concl-conclusion.ensures.value (abstracted c.in-Some.parts.name.now c.in-Some.parts.ty.now c.in-Some.parts.body.now) c.in-Some.ensures.parts
     (sym c.are_assumed.ensures ∙ c.if-not-are_assumed.true)
 
-pub returns-in-Ok : goal.returns-in-Ok
-returns-in-Ok c store is =
+pub returns-in_ok-fresh-in-Some : goal.returns-in_ok-fresh-in-Some
+returns-in_ok-fresh-in-Some c store is =
     choose_answers c.args.theory.now store (goal_of c.args.goal.now) c.args.name.now c.args.theorem.now c.hyps-hypotheses.result.now c.concl-conclusion.result.now is
     c.hyps-hypotheses.ensures.value c.concl-conclusion.ensures.value (abstracted c.in-Some.parts.name.now c.in-Some.parts.ty.now c.in-Some.parts.body.now) c.in-Some.ensures.parts
     (sym c.are_assumed.ensures ∙ c.if-not-are_assumed.false) c.as_str.result.now (step_in c.chosen.result)
-    (rw c.as_str.ensures.value c.in-Ok.ensures.fresh) c.chosen.ensures
+    (rw c.as_str.ensures.value c.in_ok-fresh-in-Some.ensures.fresh) c.chosen.ensures

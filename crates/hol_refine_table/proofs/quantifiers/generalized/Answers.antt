@@ -1,4 +1,5 @@
 use Rattle.std.proofs.Common.{◌∷◌, []}
+use Rattle.std.proofs.lemmas.Result.{err_from_is_err_and}
 use Rattle.hol_model.specs.Terms.NamedTerm.{variable}
 use Rattle.hol_model.specs.Terms.Measures.{nameless_within_limits}
 use Rattle.hol_model.specs.Derived.DerivedRules.{body_with}
@@ -11,12 +12,14 @@ use Rattle.hol_refine_table.specs.Answers.{step_in, abstracted}
 use Rattle.hol_refine_table.proofs.Fitting.{fitting, unfitting}
 use Rattle.hol_refine_table.proofs.quantifiers.generalized.Goals as goal
 
-pub returns-in-Err : goal.returns-in-Err
-returns-in-Err c =
+pub returns-in_err-instance : goal.returns-in_err-instance
+returns-in_err-instance c =
+    let p = err_from_is_err_and c.from_residual.result c.from_residual.ensures.1 in
     let at = abstracted c.args.name.now c.args.ty.now c.args.body.now in
     let tree = trees.by_rule (rule_gen (variable c.args.fresh.now c.args.ty.now)) (one_part from_first) in
-    unfitting (nameless_within_limits (body_with at (variable c.args.fresh.now c.args.ty.now)))
-    (record { goals = toward (goal_of c.args.goal.now) (renamed_body at c.args.fresh.now) ∷ []; justification = tree }) c.in-Err.fault c.in-Err.ensures
+    rw (p.1, p.2)
+    (unfitting (nameless_within_limits (body_with at (variable c.args.fresh.now c.args.ty.now)))
+    (record { goals = toward (goal_of c.args.goal.now) (renamed_body at c.args.fresh.now) ∷ []; justification = tree }) c.in_err-instance.field-0.0 c.in_err-instance.ensures)
 
 pub returns : goal.returns
 returns c =
@@ -24,4 +27,4 @@ returns c =
     let tree = trees.by_rule (rule_gen (variable c.args.fresh.now c.args.ty.now)) (one_part from_first) in
     fitting (nameless_within_limits (body_with at (variable c.args.fresh.now c.args.ty.now)))
     (record { goals = toward (goal_of c.args.goal.now) (renamed_body at c.args.fresh.now) ∷ []; justification = tree }) (step_in c.to_stated.result)
-    c.in-Ok.ensures.0 (c.to_stated.ensures (renamed_body at c.args.fresh.now) tree c.in-Ok.ensures.1 c.in-Ok-by_gen.ensures)
+    c.in_ok-instance.ensures.0 (c.to_stated.ensures (renamed_body at c.args.fresh.now) tree c.in_ok-instance.ensures.1 c.in_ok-just.ensures)

@@ -1,7 +1,7 @@
 use Rattle.hol_goals.proofs.attempt.Attempt.proceed.Goals as goal
 
-pub returns-in-Ok-clause-made : goal.returns-in-Ok-clause-made
-returns-in-Ok-clause-made c = λ journal kept. c.advance.ensures.made journal kept tt
+pub returns-clause-made : goal.returns-clause-made
+returns-clause-made c = λ journal kept. c.advance.ensures.made journal kept tt
 
-pub returns-in-Err-clause-made : goal.returns-in-Err-clause-made
-returns-in-Err-clause-made c = λ journal kept. c.advance.ensures.made journal kept tt
+pub returns-in_err-advance-clause-made : goal.returns-in_err-advance-clause-made
+returns-in_err-advance-clause-made c = λ journal kept. c.advance.ensures.made journal kept tt
