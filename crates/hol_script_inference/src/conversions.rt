@@ -34,10 +34,7 @@ pub(crate) fn conversion<H: Refiners>(
         → AnswersPlainly (session_tools (H.refiners hosts.now) (H.conversions hosts.now)) (lemmas_of session.old) (theorem_in result) (state_of session.old) (by_conversion unit tree) }
     ensures makes { MakesTheorem session.old session.new result }
 {
-    let term = match session.known_term(alloc, steps) {
-        Ok(term) => term,
-        Err(fault) => return Err(fault),
-    };
+    let term = session.known_term(alloc, steps)?;
     let mut fuel = Fuel::new(STEPS_LIMIT);
     apply(&mut session.library, alloc, hosts, conv, &term, &mut fuel)
 }

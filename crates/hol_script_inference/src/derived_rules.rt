@@ -55,10 +55,7 @@ fn by_conversion(session: &mut Session, alloc: Global, steps: &[TermStep]) -> Re
         → AnswersRule (theorem_in result) (state_of session.old) (commands.by_derived (commands.by_conversion tree)) }
     ensures grows { GrowsJournal session.old session.new result }
 {
-    let term = match session.term(alloc, steps) {
-        Ok(term) => term,
-        Err(fault) => return Err(fault),
-    };
+    let term = session.term(alloc, steps)?;
     let rule = Rule::BetaConv(term);
     apply_rule(
         &mut session.library.recorder,
@@ -134,10 +131,7 @@ fn by_term_and_premise(
         → AnswersRule (theorem_in result) (state_of session.old) (commands.by_derived (commands.by_term_and_premise rule tree name.now)) }
     ensures grows { GrowsJournal session.old session.new result }
 {
-    let term = match session.term(alloc, steps) {
-        Ok(term) => term,
-        Err(fault) => return Err(fault),
-    };
+    let term = session.term(alloc, steps)?;
     let Some(premise) = session.library.store.get(name) else {
         return Err(Fault::UnknownName);
     };
@@ -195,14 +189,8 @@ fn by_witness(
         → AnswersRule (theorem_in result) (state_of session.old) (commands.by_derived (commands.by_witness tree other name.now)) }
     ensures grows { GrowsJournal session.old session.new result }
 {
-    let formula = match session.term(alloc, formula) {
-        Ok(formula) => formula,
-        Err(fault) => return Err(fault),
-    };
-    let witness = match session.term(alloc, witness) {
-        Ok(witness) => witness,
-        Err(fault) => return Err(fault),
-    };
+    let formula = session.term(alloc, formula)?;
+    let witness = session.term(alloc, witness)?;
     let Some(premise) = session.library.store.get(name) else {
         return Err(Fault::UnknownName);
     };
@@ -229,10 +217,7 @@ fn by_choice(
         → AnswersRule (theorem_in result) (state_of session.old) (commands.by_derived (commands.by_choice tree first.now second.now)) }
     ensures grows { GrowsJournal session.old session.new result }
 {
-    let variable = match session.term(alloc, variable) {
-        Ok(variable) => variable,
-        Err(fault) => return Err(fault),
-    };
+    let variable = session.term(alloc, variable)?;
     let Some(first) = session.library.store.get(first) else {
         return Err(Fault::UnknownName);
     };

@@ -28,14 +28,9 @@ fn replacement(session: &Session, alloc: Global, pair: &TermPair) -> Result<(Ter
     ensures { (trees : TermTree × TermTree) → IsTermPair pair.now trees
         → Answers result (spec.replacement (scope_in (state_of session.now)) trees) }
 {
-    let new = match session.term(alloc, &pair.new) {
-        Ok(new) => new,
-        Err(fault) => return Err(fault),
-    };
-    match session.term(alloc, &pair.old) {
-        Ok(old) => Ok((new, old)),
-        Err(fault) => Err(fault),
-    }
+    let new = session.term(alloc, &pair.new)?;
+    let old = session.term(alloc, &pair.old)?;
+    Ok((new, old))
 }
 
 // The replacements that pairs of terms are.
@@ -50,10 +45,7 @@ fn replacements(
 {
     let mut theta = Vec::new(alloc);
     for pair in pairs {
-        match replacement(session, alloc, pair) {
-            Ok(replacement) => theta.push(replacement)?,
-            Err(fault) => return Err(fault),
-        }
+        theta.push(replacement(session, alloc, pair)?)?;
     }
     Ok(theta)
 }
@@ -70,10 +62,7 @@ pub(crate) fn inst(
         → AnswersRule (theorem_in result) (state_of session.old) (commands.by_inst trees name.now) }
     ensures grows { GrowsJournal session.old session.new result }
 {
-    let theta = match replacements(session, alloc, pairs) {
-        Ok(theta) => theta,
-        Err(fault) => return Err(fault),
-    };
+    let theta = replacements(session, alloc, pairs)?;
     let Some(premise) = session.library.store.get(name) else {
         return Err(Fault::UnknownName);
     };
@@ -93,14 +82,9 @@ fn type_replacement(session: &Session, alloc: Global, pair: &TypePair) -> Result
     ensures { (trees : TypeTree × List ℕ) → IsTypePair pair.now trees
         → Answers result (spec.type_replacement (scope_in (state_of session.now)) trees) }
 {
-    let new = match session.ty(alloc, &pair.new) {
-        Ok(new) => new,
-        Err(fault) => return Err(fault),
-    };
-    match Ty::tyvar(alloc, pair.old) {
-        Ok(old) => Ok((new, old)),
-        Err(fault) => Err(fault),
-    }
+    let new = session.ty(alloc, &pair.new)?;
+    let old = Ty::tyvar(alloc, pair.old)?;
+    Ok((new, old))
 }
 
 // The replacements that pairs of a type and a type variable are.
@@ -115,10 +99,7 @@ fn type_replacements(
 {
     let mut theta = Vec::new(alloc);
     for pair in pairs {
-        match type_replacement(session, alloc, pair) {
-            Ok(replacement) => theta.push(replacement)?,
-            Err(fault) => return Err(fault),
-        }
+        theta.push(type_replacement(session, alloc, pair)?)?;
     }
     Ok(theta)
 }
@@ -135,10 +116,7 @@ pub(crate) fn inst_type(
         → AnswersRule (theorem_in result) (state_of session.old) (commands.by_inst_type trees name.now) }
     ensures grows { GrowsJournal session.old session.new result }
 {
-    let theta = match type_replacements(session, alloc, pairs) {
-        Ok(theta) => theta,
-        Err(fault) => return Err(fault),
-    };
+    let theta = type_replacements(session, alloc, pairs)?;
     let Some(premise) = session.library.store.get(name) else {
         return Err(Fault::UnknownName);
     };

@@ -30,10 +30,7 @@ pub(crate) fn by_term(
         → AnswersRule (theorem_in result) (state_of session.old) (commands.by_term rule tree) }
     ensures grows { GrowsJournal session.old session.new result }
 {
-    let term = match session.term(alloc, steps) {
-        Ok(term) => term,
-        Err(fault) => return Err(fault),
-    };
+    let term = session.term(alloc, steps)?;
     let rule = of_term(rule, term);
     apply_rule(
         &mut session.library.recorder,
@@ -100,10 +97,7 @@ pub(crate) fn abs(
         → AnswersRule (theorem_in result) (state_of session.old) (commands.by_abs tree name.now) }
     ensures grows { GrowsJournal session.old session.new result }
 {
-    let binder = match session.term(alloc, steps) {
-        Ok(binder) => binder,
-        Err(fault) => return Err(fault),
-    };
+    let binder = session.term(alloc, steps)?;
     let Some(premise) = session.library.store.get(name) else {
         return Err(Fault::UnknownName);
     };

@@ -80,15 +80,10 @@ fn push_row(
 fn row_text(alloc: Global, scope: &Scope, term: &Term, row: &[bool]) -> Result<String, Fault>
     ensures { IfOk result (λ text. string_bytes text ≡ replies.row_text (scope_of scope.now) (values_of (atoms_of term.now) row.now)) }
 {
-    let atoms = match atoms(alloc, term) {
-        Ok(atoms) => atoms,
-        Err(fault) => return Err(fault),
-    };
+    let atoms = atoms(alloc, term)?;
     let mut text = String::new(alloc);
-    match push_row(alloc, scope, &atoms, row, &mut text) {
-        Ok(()) => Ok(text),
-        Err(fault) => Err(fault),
-    }
+    push_row(alloc, scope, &atoms, row, &mut text)?;
+    Ok(text)
 }
 
 /// The refusal of a term that TAUT does not prove: where the fault has a row, with its text. Where that finds no memory, the

@@ -45,10 +45,7 @@ pub fn thm<H: Refiners>(
         Err(fault) => return Err(Refused::plain(fault)),
     }
     libraries_grow();
-    let theorem = match theorem(session, alloc, hosts, asked) {
-        Ok(theorem) => theorem,
-        Err(refused) => return Err(refused),
-    };
+    let theorem = theorem(session, alloc, hosts, asked)?;
     match session.keep(alloc, name, theorem) {
         Ok(printed) => Ok(printed),
         Err(fault) => Err(Refused::plain(fault)),

@@ -53,10 +53,7 @@ fn push_goals(alloc: Global, scope: &Scope, goals: &[Goal], out: &mut String) ->
     ensures err { IfErr result (λ fault. fault ≡ Memory) }
 {
     for goal in goals {
-        match push_goal(alloc, scope, goal, out) {
-            Ok(()) => {}
-            Err(fault) => return Err(fault),
-        }
+        push_goal(alloc, scope, goal, out)?;
     }
     Ok(())
 }
@@ -95,14 +92,9 @@ pub(crate) fn text_of_goals(alloc: Global, scope: &Scope, goals: &[Goal]) -> Res
     ensures err { IfErr result (λ fault. fault ≡ Memory) }
 {
     let mut text = String::new(alloc);
-    match push_count(goals.len(), &mut text) {
-        Ok(()) => {}
-        Err(fault) => return Err(fault),
-    }
-    match push_goals(alloc, scope, goals, &mut text) {
-        Ok(()) => Ok(text),
-        Err(fault) => Err(fault),
-    }
+    push_count(goals.len(), &mut text)?;
+    push_goals(alloc, scope, goals, &mut text)?;
+    Ok(text)
 }
 
 /// The text of one goal without assumptions. Refused: Memory.

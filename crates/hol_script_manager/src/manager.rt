@@ -55,13 +55,11 @@ impl Manager {
         ensures kept { IfOk result IsManager }
         ensures err { IfErr result (λ fault. fault ≡ Memory) }
     {
-        match Session::new(alloc) {
-            Ok(session) => Ok(Manager {
-                prover: Prover { session },
-                stack: Stack::new(),
-            }),
-            Err(fault) => Err(fault),
-        }
+        let session = Session::new(alloc)?;
+        Ok(Manager {
+            prover: Prover { session },
+            stack: Stack::new(),
+        })
     }
 
     /// Lets go of the entries that a log is written from; `log_text` finds no memory then. No contract sees a change.
@@ -98,10 +96,8 @@ impl Manager {
         self.top_is_proved();
         let goals = self.stack.open_goals();
         goals_are_well_formed(goals);
-        match text_of_goals(alloc, &self.prover.session.scope, goals) {
-            Ok(text) => Ok(Printed::Goals(text)),
-            Err(fault) => Err(fault),
-        }
+        let text = text_of_goals(alloc, &self.prover.session.scope, goals)?;
+        Ok(Printed::Goals(text))
     }
 
     /// `goal "p"` (HOL Light's `g`): sets a goal without assumptions, in place of the one before, and shows it. Refused, where
@@ -113,23 +109,13 @@ impl Manager {
         ensures kept { IsManager self.new }
     {
         let session = &mut self.prover.session;
-        let term = match term_of_steps(alloc, &session.scope, steps) {
-            Ok(term) => term,
-            Err(fault) => return Err(fault),
-        };
-        let text = match text_of_only_goal(alloc, &session.scope, &term) {
-            Ok(text) => text,
-            Err(fault) => return Err(fault),
-        };
+        let term = term_of_steps(alloc, &session.scope, steps)?;
+        let text = text_of_only_goal(alloc, &session.scope, &term)?;
         term.well_formed();
         term.well_named();
-        match self.stack.set(alloc, &session.library.recorder, &term) {
-            Ok(()) => {
-                session.library.store.clear_lemmas();
-                Ok(Printed::Goals(text))
-            }
-            Err(fault) => Err(fault),
-        }
+        self.stack.set(alloc, &session.library.recorder, &term)?;
+        session.library.store.clear_lemmas();
+        Ok(Printed::Goals(text))
     }
 
     // Forgets the lemmas behind the first ones, so many, and then keeps no entry of a rule from a number on, which they alone
@@ -156,10 +142,7 @@ impl Manager {
             → Performs (session_tools (H.refiners host.now) (H.conversions host.now)) (state_of self.old) (e_command tree) (Says (plainly result)) (state_of self.new) }
         ensures kept { IsManager self.new }
     {
-        let tac = match read_tactic(alloc, &self.prover.session.scope, tac) {
-            Ok(tac) => tac,
-            Err(fault) => return Err(fault),
-        };
+        let tac = read_tactic(alloc, &self.prover.session.scope, tac)?;
         let lemmas = self.prover.session.library.store.lemma_count();
         let entries = self.prover.session.library.recorder.entries();
         let mut fuel = Fuel::new(STEPS_LIMIT);
@@ -189,10 +172,7 @@ impl Manager {
         ensures performs { Performs no_tools (state_of self.old) b_command (Says (plainly result)) (state_of self.new) }
         ensures kept { IsManager self.new }
     {
-        match self.stack.back() {
-            Ok(()) => {}
-            Err(fault) => return Err(fault),
-        }
+        self.stack.back()?;
         self.shown_or_undone(alloc)
     }
 
@@ -233,10 +213,7 @@ impl Manager {
             → Performs no_tools (state_of self.old) (r_command digits) (Says (plainly result)) (state_of self.new) }
         ensures kept { IsManager self.new }
     {
-        match self.stack.rotate(alloc, turns) {
-            Ok(()) => {}
-            Err(fault) => return Err(fault),
-        }
+        self.stack.rotate(alloc, turns)?;
         self.shown_or_undone(alloc)
     }
 
@@ -247,18 +224,9 @@ impl Manager {
         ensures performs { Performs no_tools (state_of self.old) (save_command name.now) (Says (plainly result)) (state_of self.new) }
         ensures kept { IsManager self.new }
     {
-        match self.prover.session.test_name(name) {
-            Ok(()) => {}
-            Err(fault) => return Err(fault),
-        }
-        let theorem = match self.stack.top_thm() {
-            Ok(theorem) => theorem,
-            Err(fault) => return Err(fault),
-        };
-        match theorem.copy(alloc) {
-            Ok(theorem) => self.prover.session.keep(alloc, name, theorem),
-            Err(fault) => Err(fault),
-        }
+        self.prover.session.test_name(name)?;
+        let theorem = self.stack.top_thm()?.copy(alloc)?;
+        self.prover.session.keep(alloc, name, theorem)
     }
 
     /// `thm NAME = ..`: stores and prints the theorem that is asked for (`hol_script_inference::thm`).

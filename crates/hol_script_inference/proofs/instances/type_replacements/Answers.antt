@@ -15,5 +15,5 @@ loop-pair-preserved c = λ trees matched.
     let here : drop at pairs ≡ c.pair-item.result ∷ drop (at + 1) pairs =
     item-at pairs at c.pair-item.result c.loop-pair-test.true ∙ ap (λ (x : TypePair). x ∷ drop (at + 1) pairs) (sym c.pair-item.is) in
     let under = subst (λ (left : List TypePair). IsReadTo IsTypePair read left c.loop-pair.theta.items trees) here (c.loop-pair.invariant trees matched) in
-    subst (λ (done : List _). IsReadTo IsTypePair read (drop (at + 1) pairs) done trees) (sym c.in_ok-push-in-Ok.ensures.items)
-    (read-further IsTypePair read c.pair-item.result (drop (at + 1) pairs) c.loop-pair.theta.items c.in-Ok.replacement trees under c.in-Ok.ensures)
+    subst (λ (done : List _). IsReadTo IsTypePair read (drop (at + 1) pairs) done trees) (sym c.in_ok-push.ensures.items)
+    (read-further IsTypePair read c.pair-item.result (drop (at + 1) pairs) c.loop-pair.theta.items c.in_ok-type_replacement.field-0 trees under c.in_ok-type_replacement.ensures)
