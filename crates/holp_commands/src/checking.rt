@@ -1,9 +1,7 @@
 // Checks and migrates logs.
 
 use crate::reviewing::print_review;
-use hol_check::{
-    CheckedLog, Claim, LogEntry, check, check_log, migrate, write_claims, write_entries,
-};
+use hol_check::{Claim, LogEntry, check, check_log, migrate, write_claims, write_entries};
 use hol_device_adapters::{FromCall, IntoCall};
 use hol_model::Fault;
 use holp_files::{Input, NewFile};
@@ -18,38 +16,38 @@ fn open(rt: &HostRuntime, name: &str) -> Result<Input, Fault> {
     }
 }
 
-// The claims of a log, where it is accepted.
-fn claims_in(rt: &HostRuntime, log: &str) -> Result<Vec<Claim>, Fault> {
+/// What is printed of a log that is accepted.
+#[derive(Clone, Copy)]
+pub(crate) enum Listing {
+    /// Its claims and their number.
+    Claims,
+    /// The entries of its theory, then its claims and their number.
+    Theory,
+    /// What it says for its reviewer.
+    Review,
+}
+
+/// Checks a log, and prints what is to be listed of it.
+pub(crate) fn check_file(rt: &HostRuntime, log: &str, listing: Listing) -> Result<u64, Fault> {
     let mut file = open(rt, log)?;
     let reads = Box::new(rt.alloc(), move |buf: &mut [u8]| file.read(buf))?;
-    check(rt.alloc(), &mut FromCall::new(reads))
-}
-
-// The theory and the claims of a log, where it is accepted.
-fn checked(rt: &HostRuntime, log: &str) -> Result<CheckedLog, Fault> {
-    let mut file = open(rt, log)?;
-    let reads = Box::new(rt.alloc(), move |buf: &mut [u8]| file.read(buf))?;
-    check_log(rt.alloc(), &mut FromCall::new(reads))
-}
-
-/// Checks a log, and prints its claims and their number.
-pub(crate) fn check_file(rt: &HostRuntime, log: &str) -> Result<u64, Fault> {
-    let claims = claims_in(rt, log)?;
-    print_claims(rt, &claims)
-}
-
-/// Checks a log, and prints the entries of its theory, then its claims and their number.
-pub(crate) fn check_file_with_theory(rt: &HostRuntime, log: &str) -> Result<u64, Fault> {
-    let log = checked(rt, log)?;
-    print_entries(rt, &log.entries)?;
-    print_claims(rt, &log.claims)
-}
-
-/// Checks a log, and prints what it says for its reviewer.
-pub(crate) fn check_file_with_review(rt: &HostRuntime, log: &str) -> Result<u64, Fault> {
-    let log = checked(rt, log)?;
-    print_review(rt, &log)?;
-    Ok(0)
+    let mut source = FromCall::new(reads);
+    match listing {
+        Listing::Claims => {
+            let claims = check(rt.alloc(), &mut source)?;
+            print_claims(rt, &claims)
+        }
+        Listing::Theory => {
+            let log = check_log(rt.alloc(), &mut source)?;
+            print_entries(rt, &log.entries)?;
+            print_claims(rt, &log.claims)
+        }
+        Listing::Review => {
+            let log = check_log(rt.alloc(), &mut source)?;
+            print_review(rt, &log)?;
+            Ok(0)
+        }
+    }
 }
 
 fn print_entries(rt: &HostRuntime, entries: &[LogEntry]) -> Result<(), Fault> {
@@ -70,21 +68,16 @@ fn print_claims(rt: &HostRuntime, claims: &[Claim]) -> Result<u64, Fault> {
     }
 }
 
-// Writes a log in the second version to a new file, and answers its claims.
-fn migrated(rt: &HostRuntime, log: &str, new: &str) -> Result<Vec<Claim>, Fault> {
-    let mut file = open(rt, log)?;
-    let reads = Box::new(rt.alloc(), move |buf: &mut [u8]| file.read(buf))?;
-    migrate(
-        rt.alloc(),
-        &mut FromCall::new(reads),
-        &mut NewFile::new(rt, new),
-    )
-}
-
 /// Checks a log, writes it in the second version to a new file, and prints the number of its claims. The log is read to
 /// its end before the new file is made, and the file is made for an accepted log alone.
 pub(crate) fn migrate_file(rt: &HostRuntime, log: &str, new: &str) -> Result<u64, Fault> {
-    let claims = migrated(rt, log, new)?;
+    let mut file = open(rt, log)?;
+    let reads = Box::new(rt.alloc(), move |buf: &mut [u8]| file.read(buf))?;
+    let claims = migrate(
+        rt.alloc(),
+        &mut FromCall::new(reads),
+        &mut NewFile::new(rt, new),
+    )?;
     let mut digits = Buffer::new();
     match println!(rt; "migrated: {} claims", digits.format(claims.len())) {
         Ok(()) => Ok(0),

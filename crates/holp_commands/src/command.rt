@@ -1,10 +1,10 @@
 // The command that words name.
 
-use crate::checking::{check_file, check_file_with_review, check_file_with_theory, migrate_file};
+use crate::checking::{Listing, check_file, migrate_file};
 use crate::conversing::converse_over;
 use crate::ending::tell;
 use crate::options::Options;
-use crate::running::{run_scripts, run_scripts_with_log};
+use crate::running::run_scripts;
 use crate::words::{command_line, value};
 use anyhow::ensure;
 use clap::ArgMatches;
@@ -12,28 +12,15 @@ use clap::error::ErrorKind;
 use hol_model::Fault;
 use holp_files::holds_no_log;
 
-// Whether standard input is named more than once.
-fn names_input_twice(names: &[&str]) -> bool {
-    let mut is_named = false;
+// How often standard input is named.
+fn count_of_input(names: &[&str]) -> usize {
+    let mut count = 0usize;
     for at in 0..names.len() {
         if names[at] == "-" {
-            if is_named {
-                return true;
-            }
-            is_named = true;
+            count = count.saturating_add(1);
         }
     }
-    false
-}
-
-// Whether standard input is named.
-fn names_input(names: &[&str]) -> bool {
-    for at in 0..names.len() {
-        if names[at] == "-" {
-            return true;
-        }
-    }
-    false
+    count
 }
 
 // Whether a log may not be written to a file, whose bytes would be lost. Standard error then tells so, with these words before the name.
@@ -57,7 +44,7 @@ fn run(rt: &HostRuntime, matches: &ArgMatches<'_>) -> anyhow::Result<u8> {
         return Ok(2);
     };
     ensure!(
-        !names_input_twice(names),
+        count_of_input(names) < 2,
         "- is standard input, and may stand once"
     );
     let log = matches.get_str("log");
@@ -69,11 +56,7 @@ fn run(rt: &HostRuntime, matches: &ArgMatches<'_>) -> anyhow::Result<u8> {
         shows_goals: matches.get_flag("goals"),
         tells_records: matches.get_flag("json"),
     };
-    let answer = match log {
-        Some(log) => run_scripts_with_log(rt, names, options, log),
-        None => run_scripts(rt, names, options),
-    };
-    Ok(tell(rt, answer))
+    Ok(tell(rt, run_scripts(rt, names, options, log)))
 }
 
 // `repl`: the status is that of `run`.
@@ -85,21 +68,23 @@ fn repl(rt: &HostRuntime, matches: &ArgMatches<'_>) -> anyhow::Result<u8> {
     let Some(names) = matches.get_strs("SCRIPT") else {
         return Ok(tell(rt, converse_over(rt, &[], log)));
     };
-    ensure!(!names_input(names), "- is standard input, which comes last");
+    ensure!(
+        count_of_input(names) == 0,
+        "- is standard input, which comes last"
+    );
     Ok(tell(rt, converse_over(rt, names, log)))
 }
 
 // `check`: the status is 0, 3 where the log is refused, or that of a fault.
 fn check(rt: &HostRuntime, matches: &ArgMatches<'_>) -> u8 {
-    let log = value(matches, "LOG");
-    let answer = if matches.get_flag("review") {
-        check_file_with_review(rt, log)
+    let listing = if matches.get_flag("review") {
+        Listing::Review
     } else if matches.get_flag("theory") {
-        check_file_with_theory(rt, log)
+        Listing::Theory
     } else {
-        check_file(rt, log)
+        Listing::Claims
     };
-    tell(rt, answer)
+    tell(rt, check_file(rt, value(matches, "LOG"), listing))
 }
 
 // `migrate`: the status is 0, 3 where the log is refused, or that of a fault.
@@ -123,23 +108,19 @@ fn run_matched(rt: &HostRuntime, matches: &ArgMatches<'_>) -> anyhow::Result<u8>
     }
 }
 
-// Tells what is wrong with words, or the help or the version that they ask for.
-fn tell_words(rt: &HostRuntime, error: clap::Error) -> anyhow::Result<u8> {
-    if error.kind() == ErrorKind::OutOfMemory {
-        return Ok(tell(rt, Err(Fault::Memory)));
-    }
-    error.print(rt)?;
-    Ok(error.exit_code() as u8)
-}
-
 /// Runs the command that words name, of which the first is the program's name, and answers the exit status: 0 where all was
 /// accepted, 1 where a command of a script was refused, 2 for wrong words and for faults of files, memory or length, 3 for a
 /// refused log. Help and the version go to standard output, faults to standard error. An error is another with status 2,
 /// which is not told yet.
 pub fn run_command(rt: &HostRuntime, words: &[String]) -> anyhow::Result<u8> {
     let command = command_line(rt.alloc())?;
-    match command.try_get_matches_from(words) {
-        Ok(matches) => run_matched(rt, &matches),
-        Err(error) => tell_words(rt, error),
+    let error = match command.try_get_matches_from(words) {
+        Ok(matches) => return run_matched(rt, &matches),
+        Err(error) => error,
+    };
+    if error.kind() == ErrorKind::OutOfMemory {
+        return Ok(tell(rt, Err(Fault::Memory)));
     }
+    error.print(rt)?;
+    Ok(error.exit_code() as u8)
 }

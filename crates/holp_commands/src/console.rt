@@ -89,7 +89,7 @@ impl<'a, 'b, 'c, H: Refiners> Console<'a, 'b, 'c, H> {
             let _ = view.learn(alloc, command);
         }
         let script = Script {
-            origins: self.feed.origins(),
+            origins: self.feed.origins.as_slice(),
             text: command,
             host_names: self.host_names,
         };
@@ -109,7 +109,7 @@ impl<'a, 'b, 'c, H: Refiners> Console<'a, 'b, 'c, H> {
     pub(crate) fn end(&self) {
         let alloc = self.rt.alloc();
         let script = Script {
-            origins: self.feed.origins(),
+            origins: self.feed.origins.as_slice(),
             text: &self.command,
             host_names: self.host_names,
         };
@@ -146,12 +146,12 @@ impl<'a, 'b, 'c, H: Refiners> Console<'a, 'b, 'c, H> {
             return Some(false);
         }
         let feeds = line_feeds(&self.command);
-        let before = self.feed.lines().saturating_sub(feeds);
+        let before = self.feed.lines.saturating_sub(feeds);
         let begin = before.saturating_add(leading_line_feeds(&self.command) + 1);
         let between = self.feed.begin_next()?;
         if !is_blank_text(&self.command) {
-            let end = self.feed.lines().saturating_add(1);
-            tell_unended(self.rt, self.feed.origins(), begin, end);
+            let end = self.feed.lines.saturating_add(1);
+            tell_unended(self.rt, self.feed.origins.as_slice(), begin, end);
         }
         self.take_up(between)?;
         Some(true)

@@ -10,9 +10,8 @@ use crate::running::{create, refused_in};
 use crate::scripts::open_scripts;
 use crate::words::VERSION;
 use hol_device_adapters::{IntoCall, IntoWrite};
-use hol_host::Refiners;
 use hol_model::{Fault, Sink};
-use hol_script::{Ended, converse};
+use hol_script::converse;
 use holp_files::ScriptFile;
 use holp_goals::View;
 use std::cell::RefCell;
@@ -21,30 +20,6 @@ use std::mem::forget;
 
 // What the commands at a terminal are told to stand in.
 const TERMINAL: &str = "input";
-
-// Tells at a terminal how a conversation goes on and ends.
-fn greet(rt: &HostRuntime, wants_log: bool) {
-    let ending = if wants_log {
-        ", and writes the log"
-    } else {
-        ""
-    };
-    let _ = eprintln!(rt; "holp {VERSION}. Each command ends with `;;`. Ctrl-D ends{ending}.");
-}
-
-// Tells how many commands were refused in a conversation at a console, once what stands behind the last `;;` is explained.
-fn refused_at<H: Refiners>(
-    console: &Console<'_, '_, '_, H>,
-    ended: Result<Ended, Fault>,
-) -> Result<u64, Fault> {
-    match ended {
-        Ok(ended) => {
-            console.end();
-            refused_in(ended)
-        }
-        Err(fault) => Err(fault),
-    }
-}
 
 // Converses over a feed with the host of the program, and answers how many of the commands were refused. Goals are laid out on
 // standard output, and messages written to standard error.
@@ -61,12 +36,24 @@ fn converse_with<'a, 'b, L: Sink>(
     let host = host();
     let prompts = rt.stdin().is_terminal();
     if prompts {
-        greet(rt, wants_log);
+        let ending = if wants_log {
+            ", and writes the log"
+        } else {
+            ""
+        };
+        let _ = eprintln!(rt; "holp {VERSION}. Each command ends with `;;`. Ctrl-D ends{ending}.");
     }
     let mut reader = Console::new(rt, &host, host_names, view, feed, prompts);
     let mut writer = Output::new(rt, &[], Some(view));
     let ended = converse(rt.alloc(), &mut reader, &mut writer, log, wants_log, &host);
-    let refused = refused_at(&reader, ended);
+    let refused = match ended {
+        Ok(ended) => {
+            // What stands behind the last `;;` is explained.
+            reader.end();
+            refused_in(ended)
+        }
+        Err(fault) => Err(fault),
+    };
     // The program ends, and the session goes with its memory, as one.
     forget(reader);
     refused
@@ -95,14 +82,6 @@ fn converse_logged<'a>(rt: &'a HostRuntime, feed: Feed<'a>, log: &str) -> Result
     converse_hosted(rt, feed, &mut IntoCall::new(logs), true)
 }
 
-// Opens scripts, and behind them standard input.
-fn open_with_input(rt: &HostRuntime, scripts: &[&str]) -> Result<Vec<ScriptFile>, Fault> {
-    let mut opened = open_scripts(rt, scripts, true)?;
-    let input = ScriptFile::open(rt, "-", true)?;
-    opened.push(input)?;
-    Ok(opened)
-}
-
 /// Runs scripts, and then the commands that come on standard input, and answers how many were refused. Where a log is asked for, its
 /// file is made once the scripts are open, and written at the end of the input.
 pub(crate) fn converse_over(
@@ -120,7 +99,9 @@ pub(crate) fn converse_over(
     let mut names = Vec::new(alloc);
     names.extend_from_slice(scripts)?;
     names.push(input)?;
-    let opened = open_with_input(rt, scripts)?;
+    let mut opened = open_scripts(rt, scripts, true)?;
+    let source = ScriptFile::open(rt, "-", true)?;
+    opened.push(source)?;
     let feed = Feed::new(&names, opened, Vec::new(alloc));
     match log {
         Some(log) => converse_logged(rt, feed, log),

@@ -12,9 +12,10 @@ pub(crate) struct Feed<'a> {
     // Those that are not begun, the first of them last.
     waiting: Vec<ScriptFile>,
     input: Option<ScriptFile>,
-    // Those that are begun.
-    origins: Vec<Origin<'a>>,
-    lines: usize,
+    /// Those that are begun, and which lines come from which.
+    pub(crate) origins: Vec<Origin<'a>>,
+    /// How many line feeds were read.
+    pub(crate) lines: usize,
     ends_line: bool,
 }
 
@@ -35,16 +36,6 @@ impl<'a> Feed<'a> {
             lines: 0,
             ends_line: true,
         }
-    }
-
-    /// The files that are begun, and which lines come from which.
-    pub(crate) fn origins(&self) -> &[Origin<'a>] {
-        self.origins.as_slice()
-    }
-
-    /// How many line feeds were read.
-    pub(crate) fn lines(&self) -> usize {
-        self.lines
     }
 
     /// More than there are files.

@@ -59,22 +59,17 @@ impl Refusals<'_> {
         self.front.clear();
     }
 
-    // Reads a byte of the output. A byte without memory is passed over.
-    fn read(&mut self, byte: u8) {
-        if byte == b'\n' {
-            self.end_line();
-        } else if self.front.len() < FRONT {
-            let _ = self.front.push(byte);
-        }
-    }
-
-    /// Reads what stands next in the output.
+    /// Reads what stands next in the output. A byte without memory is passed over.
     pub(crate) fn watch(&mut self, bytes: &[u8]) {
         if self.origins.is_empty() {
             return;
         }
         for byte in bytes {
-            self.read(*byte);
+            if *byte == b'\n' {
+                self.end_line();
+            } else if self.front.len() < FRONT {
+                let _ = self.front.push(*byte);
+            }
         }
     }
 }

@@ -1,6 +1,6 @@
 // Tells what a checked log says, for its reviewer.
 
-use hol_check::{CheckedLog, EntryParts, LogEntry};
+use hol_check::{CheckedLog, EntryParts};
 use hol_check_review::{Remark, remark_on, write_review};
 use hol_device_adapters::IntoCall;
 use hol_model::Fault;
@@ -32,7 +32,15 @@ impl Counts {
             warnings: not_printed,
         };
         for entry in &log.entries {
-            counts.add_entry(entry);
+            match entry.parts() {
+                EntryParts::Definition(_, _, _) => add(&mut counts.definitions),
+                EntryParts::DeclaredType(_) | EntryParts::DeclaredConstant(_, _) => {
+                    add(&mut counts.declarations);
+                }
+            }
+            if remark_on(entry) == Remark::Unusual {
+                add(&mut counts.warnings);
+            }
         }
         for claim in &log.claims {
             if claim.hyp_count() == 0 {
@@ -42,18 +50,6 @@ impl Counts {
             }
         }
         counts
-    }
-
-    fn add_entry(&mut self, entry: &LogEntry) {
-        match entry.parts() {
-            EntryParts::Definition(_, _, _) => add(&mut self.definitions),
-            EntryParts::DeclaredType(_) | EntryParts::DeclaredConstant(_, _) => {
-                add(&mut self.declarations);
-            }
-        }
-        if remark_on(entry) == Remark::Unusual {
-            add(&mut self.warnings);
-        }
     }
 }
 

@@ -11,7 +11,6 @@ use hol_explain::{Script, explain, write_records};
 use hol_model::{Fault, Sink};
 use hol_script::{Ended, run};
 use holp_goals::View;
-use std::alloc::Global;
 use std::cell::RefCell;
 use std::fs::{self, File};
 use std::io::Write;
@@ -25,25 +24,21 @@ pub(crate) fn create(rt: &HostRuntime, name: &str) -> Result<File, Fault> {
     }
 }
 
-// Tells where messages are of other commands than the run refused.
-fn tell_other_answers(rt: &HostRuntime, refused: u64, explained: Result<u64, Fault>) {
-    match explained {
+// Explains on standard error the commands that a run of a script refused, of which there are so many, and tells where messages are of
+// others.
+fn explain_run(rt: &HostRuntime, script: &Script<'_>, refused: u64) {
+    let alloc = rt.alloc();
+    let mut output = rt.stderr();
+    let Ok(writes) = Box::new(alloc, move |piece: &[u8]| output.write(piece)) else {
+        return;
+    };
+    match explain(alloc, script, &host(), &mut IntoCall::new(writes)) {
         Ok(count) if count != refused => {
             let _ = eprintln!(rt;
                 "note: the run refused {refused} commands, and {count} when it was done again to be explained: a function of the host answers otherwise each time"
             );
         }
         _ => {}
-    }
-}
-
-// Explains on standard error the commands that a run of a script refused, of which there are so many.
-fn explain_run(rt: &HostRuntime, script: &Script<'_>, refused: u64) {
-    let alloc = rt.alloc();
-    let mut output = rt.stderr();
-    if let Ok(writes) = Box::new(alloc, move |piece: &[u8]| output.write(piece)) {
-        let explained = explain(alloc, script, &host(), &mut IntoCall::new(writes));
-        tell_other_answers(rt, refused, explained);
     }
 }
 
@@ -57,21 +52,6 @@ pub(crate) fn refused_in(ended: Ended) -> Result<u64, Fault> {
         }
         Err(fault) => Err(fault),
     }
-}
-
-// The same of a run of a script, whose refused commands are explained on standard error where that is asked for.
-fn refused_in_run(
-    rt: &HostRuntime,
-    script: &Script<'_>,
-    explains: bool,
-    ended: Ended,
-) -> Result<u64, Fault> {
-    if !explains {
-        return refused_in(ended);
-    }
-    let refused = ended.whole()?.summary.refused;
-    explain_run(rt, script, refused);
-    Ok(refused)
 }
 
 // Runs a script over the host of the program, and answers how many of its commands were refused. Where these are to be explained,
@@ -92,23 +72,16 @@ fn run_with<W: Sink, L: Sink>(
         return write_records(alloc, script, &host(), writer);
     }
     let mut reader = FromRead::new(script.text);
-    match run(alloc, &mut reader, writer, log, wants_log, &host()) {
-        Ok(ended) => refused_in_run(rt, script, options.explains, ended),
-        Err(fault) => Err(fault),
+    let ended = match run(alloc, &mut reader, writer, log, wants_log, &host()) {
+        Ok(ended) => ended,
+        Err(fault) => return Err(fault),
+    };
+    if !options.explains {
+        return refused_in(ended);
     }
-}
-
-// The view of the output of scripts, where goals are laid out.
-fn view_of(
-    alloc: Global,
-    scripts: &Scripts<'_>,
-    options: Options,
-) -> Result<Option<RefCell<View>>, Fault> {
-    if options.shows_goals {
-        Ok(Some(RefCell::new(View::new(alloc, &scripts.text)?)))
-    } else {
-        Ok(None)
-    }
+    let refused = ended.whole()?.summary.refused;
+    explain_run(rt, script, refused);
+    Ok(refused)
 }
 
 // Runs scripts as one, and answers how many of their commands were refused. Standard error tells where these stand, or, where it
@@ -129,34 +102,31 @@ fn run_over<L: Sink>(
         text: scripts.text.as_slice(),
         host_names: &host_names,
     };
-    let view = view_of(rt.alloc(), scripts, options)?;
+    let view = if options.shows_goals {
+        Some(RefCell::new(View::new(rt.alloc(), &scripts.text)?))
+    } else {
+        None
+    };
     let is_told = options.explains || options.tells_records;
     let mut writer = Output::new(rt, scripts.told(is_told), view.as_ref());
     run_with(rt, &script, options, &mut writer, log, wants_log)
 }
 
-/// Runs scripts as one, and answers how many of their commands were refused.
+/// Runs scripts as one, and answers how many of their commands were refused. Where a log is asked for, its file is made once the
+/// scripts are open, before they are read.
 pub(crate) fn run_scripts(
     rt: &HostRuntime,
     names: &[&str],
     options: Options,
-) -> Result<u64, Fault> {
-    let opened = open_scripts(rt, names, options.explains)?;
-    let scripts = read_scripts(rt, names, opened)?;
-    let mut no_log = IntoWrite::new(Vec::new(rt.alloc()));
-    run_over(rt, &scripts, options, &mut no_log, false)
-}
-
-/// Runs scripts as one and writes their log, and answers how many of their commands were refused. The log's file is made once
-/// the scripts are open, before they are read.
-pub(crate) fn run_scripts_with_log(
-    rt: &HostRuntime,
-    names: &[&str],
-    options: Options,
-    log: &str,
+    log: Option<&str>,
 ) -> Result<u64, Fault> {
     logs_are_checked();
     let opened = open_scripts(rt, names, options.explains)?;
+    let Some(log) = log else {
+        let scripts = read_scripts(rt, names, opened)?;
+        let mut no_log = IntoWrite::new(Vec::new(rt.alloc()));
+        return run_over(rt, &scripts, options, &mut no_log, false);
+    };
     let mut file = create(rt, log)?;
     let scripts = read_scripts(rt, names, opened)?;
     let logs = Box::new(rt.alloc(), move |piece: &[u8]| file.write(piece))?;

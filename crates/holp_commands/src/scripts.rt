@@ -18,27 +18,12 @@ pub(crate) struct Scripts<'a> {
 }
 
 impl<'a> Scripts<'a> {
-    // No scripts.
-    fn new(alloc: Global) -> Scripts<'a> {
-        Scripts {
-            text: Vec::new(alloc),
-            origins: Vec::new(alloc),
-            lines: 0,
-        }
-    }
-
-    // Ends the last line.
-    fn end_line(&mut self) -> Result<(), Fault> {
+    // Puts a script behind the others, whose last line is ended.
+    fn append(&mut self, name: &'a str, script: &[u8]) -> Result<(), Fault> {
         if !self.text.is_empty() && !self.text.ends_with(b"\n") {
             self.text.push(b'\n')?;
             self.lines = self.lines.saturating_add(1);
         }
-        Ok(())
-    }
-
-    // Puts a script behind the others.
-    fn append(&mut self, name: &'a str, script: &[u8]) -> Result<(), Fault> {
-        self.end_line()?;
         if script.len() > TEXT_BYTES_LIMIT.saturating_sub(self.text.len()) {
             return Err(Fault::TooLong);
         }
@@ -131,7 +116,11 @@ pub(crate) fn read_scripts<'a>(
     names: &[&'a str],
     opened: Vec<ScriptFile>,
 ) -> Result<Scripts<'a>, Fault> {
-    let mut scripts = Scripts::new(rt.alloc());
+    let mut scripts = Scripts {
+        text: Vec::new(rt.alloc()),
+        origins: Vec::new(rt.alloc()),
+        lines: 0,
+    };
     scripts.read(rt.alloc(), names, opened)?;
     if names.len() > 1 {
         scripts.tell_all_unended(rt);

@@ -32,23 +32,17 @@ fn flag<'a>(alloc: Global, name: &'a str, help: &'a str) -> Arg<'a> {
         .action(ArgAction::SetTrue)
 }
 
-// The option that asks for records.
-fn json_flag<'a>(alloc: Global) -> Result<Arg<'a>, Fault> {
-    let help = "Tells each command by a line of JSON, with its message";
-    Ok(
-        flag(alloc, "json", help)
-            .conflicts_with("log")?
-            .conflicts_with("explain")?
-            .conflicts_with("goals")?,
-    )
-}
-
 fn run_words<'a>(alloc: Global) -> Result<Command<'a>, Fault> {
     let scripts = file_argument(
         alloc,
         "SCRIPT",
         "The files of the proof scripts; - is standard input",
     );
+    let help = "Tells each command by a line of JSON, with its message";
+    let json = flag(alloc, "json", help)
+        .conflicts_with("log")?
+        .conflicts_with("explain")?
+        .conflicts_with("goals")?;
     Ok(
         Command::new(alloc, "run")
             .about("Runs proof scripts, one after another as one")
@@ -56,7 +50,7 @@ fn run_words<'a>(alloc: Global) -> Result<Command<'a>, Fault> {
             .arg(log_option(alloc))?
             .arg(flag(alloc, "explain", "Explains each refusal on standard error"))?
             .arg(flag(alloc, "goals", "Lays open goals out in lines"))?
-            .arg(json_flag(alloc)?)?,
+            .arg(json)?,
     )
 }
 
@@ -73,21 +67,16 @@ fn repl_words<'a>(alloc: Global) -> Result<Command<'a>, Fault> {
     )
 }
 
-// The option that asks for a review.
-fn review_flag<'a>(alloc: Global) -> Result<Arg<'a>, Fault> {
-    let help =
-        "Lists theory and claims as scripts write them, and warns of unusual logical constants";
-    Ok(flag(alloc, "review", help).conflicts_with("theory")?)
-}
-
 fn check_words<'a>(alloc: Global) -> Result<Command<'a>, Fault> {
     let theory = "Lists the definitions and declarations of the log too";
+    let review =
+        "Lists theory and claims as scripts write them, and warns of unusual logical constants";
     let log = "The file of the proof log; - is standard input";
     Ok(
         Command::new(alloc, "check")
             .about("Checks a proof log and lists its claims")
             .arg(flag(alloc, "theory", theory))?
-            .arg(review_flag(alloc)?)?
+            .arg(flag(alloc, "review", review).conflicts_with("theory")?)?
             .arg(file_argument(alloc, "LOG", log))?,
     )
 }
