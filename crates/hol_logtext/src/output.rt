@@ -18,10 +18,8 @@ pub(crate) fn write_text(out: &mut Vec<u8>, text: &str) -> Result<(), AllocError
 pub(crate) fn write_field(out: &mut Vec<u8>, field: &str) -> Result<(), AllocError>
     ensures { Writes result out.old.items out.new.items (spaced (field.now ∷ [])) }
 {
-    match write_text(out, " ") {
-        Ok(()) => write_text(out, field),
-        Err(error) => Err(error),
-    }
+    write_text(out, " ")?;
+    write_text(out, field)
 }
 
 /// Puts a space and a number at the end.
@@ -36,10 +34,8 @@ pub(crate) fn write_number(out: &mut Vec<u8>, number: u32) -> Result<(), AllocEr
 pub(crate) fn write_pair(out: &mut Vec<u8>, first: u32, second: u32) -> Result<(), AllocError>
     ensures { Writes result out.old.items out.new.items (spaced (decimal first ∷ decimal second ∷ [])) }
 {
-    match write_number(out, first) {
-        Ok(()) => write_number(out, second),
-        Err(error) => Err(error),
-    }
+    write_number(out, first)?;
+    write_number(out, second)
 }
 
 /// Puts a name and a number at the end, each behind a space.
@@ -50,10 +46,8 @@ pub(crate) fn write_name_and_number(
 ) -> Result<(), AllocError>
     ensures { Writes result out.old.items out.new.items (spaced (name.now ∷ decimal number ∷ [])) }
 {
-    match write_field(out, name) {
-        Ok(()) => write_number(out, number),
-        Err(error) => Err(error),
-    }
+    write_field(out, name)?;
+    write_number(out, number)
 }
 
 /// Puts numbers at the end, each behind a space.
@@ -61,10 +55,7 @@ pub(crate) fn write_numbers(out: &mut Vec<u8>, numbers: &[u32]) -> Result<(), Al
     ensures { Writes result out.old.items out.new.items (spaced (map decimal numbers.now)) }
 {
     for number in numbers {
-        match write_number(out, *number) {
-            Ok(()) => {}
-            Err(error) => return Err(error),
-        }
+        write_number(out, *number)?;
     }
     Ok(())
 }
@@ -74,10 +65,7 @@ pub(crate) fn write_pairs(out: &mut Vec<u8>, pairs: &[(u32, u32)]) -> Result<(),
     ensures { Writes result out.old.items out.new.items (spaced (pair_fields pairs.now)) }
 {
     for pair in pairs {
-        match write_pair(out, pair.0, pair.1) {
-            Ok(()) => {}
-            Err(error) => return Err(error),
-        }
+        write_pair(out, pair.0, pair.1)?;
     }
     Ok(())
 }

@@ -218,9 +218,6 @@ pub fn read_line(alloc: Global, text: &[u8]) -> Result<Result<Line<'_>, Cause>, 
     ensures read { IfOk result (λ answer. IsLineRead answer (reading.read_text text.now)) }
     ensures exact { IfOk result (λ answer. IsExact answer text.now) }
 {
-    let fields = match split_fields(alloc, text) {
-        Ok(fields) => fields,
-        Err(error) => return Err(error),
-    };
+    let fields = split_fields(alloc, text)?;
     read_fields(alloc, &fields)
 }

@@ -16,30 +16,24 @@ use std::alloc::AllocError;
 fn with_name(out: &mut Vec<u8>, words: &str, name: &str) -> Result<(), AllocError>
     ensures { Writes result out.old.items out.new.items (λ rest. words.now ++ spaced (name.now ∷ []) rest) }
 {
-    match write_text(out, words) {
-        Ok(()) => write_field(out, name),
-        Err(error) => Err(error),
-    }
+    write_text(out, words)?;
+    write_field(out, name)
 }
 
 // Words and a number.
 fn with_number(out: &mut Vec<u8>, words: &str, number: u32) -> Result<(), AllocError>
     ensures { Writes result out.old.items out.new.items (λ rest. words.now ++ spaced (decimal number ∷ []) rest) }
 {
-    match write_text(out, words) {
-        Ok(()) => write_number(out, number),
-        Err(error) => Err(error),
-    }
+    write_text(out, words)?;
+    write_number(out, number)
 }
 
 // Words and two numbers.
 fn with_pair(out: &mut Vec<u8>, words: &str, first: u32, second: u32) -> Result<(), AllocError>
     ensures { Writes result out.old.items out.new.items (λ rest. words.now ++ spaced (decimal first ∷ decimal second ∷ []) rest) }
 {
-    match write_text(out, words) {
-        Ok(()) => write_pair(out, first, second),
-        Err(error) => Err(error),
-    }
+    write_text(out, words)?;
+    write_pair(out, first, second)
 }
 
 // Words, a name and a number.
@@ -51,10 +45,8 @@ fn with_name_and_number(
 ) -> Result<(), AllocError>
     ensures { Writes result out.old.items out.new.items (λ rest. words.now ++ spaced (name.now ∷ decimal number ∷ []) rest) }
 {
-    match write_text(out, words) {
-        Ok(()) => write_name_and_number(out, name, number),
-        Err(error) => Err(error),
-    }
+    write_text(out, words)?;
+    write_name_and_number(out, name, number)
 }
 
 // Words, a number and pairs of numbers.
@@ -66,10 +58,8 @@ fn with_pairs(
 ) -> Result<(), AllocError>
     ensures { Writes result out.old.items out.new.items (λ rest. words.now ++ spaced (decimal number ∷ pair_fields pairs.now) rest) }
 {
-    match with_number(out, words, number) {
-        Ok(()) => write_pairs(out, pairs),
-        Err(error) => Err(error),
-    }
+    with_number(out, words, number)?;
+    write_pairs(out, pairs)
 }
 
 fn write_rule(out: &mut Vec<u8>, rule: &Rule<'_>) -> Result<(), AllocError>
@@ -111,14 +101,9 @@ fn write_claim(
     ensures { Writes result out.old.items out.new.items
         (λ rest. 99 ∷ spaced (name.now ∷ decimal theorem ∷ decimal conclusion ∷ map decimal hypotheses.now) rest) }
 {
-    match with_name(out, "c", name) {
-        Ok(()) => {}
-        Err(error) => return Err(error),
-    }
-    match write_pair(out, theorem, conclusion) {
-        Ok(()) => write_numbers(out, hypotheses),
-        Err(error) => Err(error),
-    }
+    with_name(out, "c", name)?;
+    write_pair(out, theorem, conclusion)?;
+    write_numbers(out, hypotheses)
 }
 
 fn write_fields(out: &mut Vec<u8>, line: &Line<'_>) -> Result<(), AllocError>
@@ -148,10 +133,8 @@ fn write_fields(out: &mut Vec<u8>, line: &Line<'_>) -> Result<(), AllocError>
 fn write_whole(out: &mut Vec<u8>, line: &Line<'_>) -> Result<(), AllocError>
     ensures { Writes result out.old.items out.new.items (λ rest. joined (line_fields (line_of line.now)) (10 ∷ rest)) }
 {
-    match write_fields(out, line) {
-        Ok(()) => write_text(out, "\n"),
-        Err(error) => Err(error),
-    }
+    write_fields(out, line)?;
+    write_text(out, "\n")
 }
 
 /// Puts a line with its line feed at the end of a text.
