@@ -92,17 +92,12 @@ fn put<W: Sink>(
     if piece.len() <= buffer.len() - held {
         return Ok(hold(buffer, held, piece));
     }
-    match write_all(writer, &buffer[..held]) {
-        Ok(()) => {}
-        Err(fault) => return Err(fault),
-    }
+    write_all(writer, &buffer[..held])?;
     if piece.len() <= buffer.len() {
         return Ok(hold(buffer, 0, piece));
     }
-    match write_all(writer, piece) {
-        Ok(()) => Ok(0),
-        Err(fault) => Err(fault),
-    }
+    write_all(writer, piece)?;
+    Ok(0)
 }
 
 /// Gives a sink the pieces, one after another, unless it fails: those that find room in a small buffer with one write.
@@ -117,10 +112,7 @@ pub fn write_pieces<W: Sink>(writer: &mut W, pieces: &[&[u8]]) -> Result<(), Fau
     let mut buffer = [0u8; 512];
     let mut held = 0usize;
     for piece in pieces {
-        match put(writer, &mut buffer, held, piece) {
-            Ok(count) => held = count,
-            Err(fault) => return Err(fault),
-        }
+        held = put(writer, &mut buffer, held, piece)?;
     }
     write_all(writer, &buffer[..held])
 }

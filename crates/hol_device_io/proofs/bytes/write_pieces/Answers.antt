@@ -1,14 +1,17 @@
 use Rattle.std.proofs.Common.{rules, take}
+use Rattle.std.proofs.lemmas.Result.{err_from_is_err_and}
 use Rattle.std.proofs.lemmas.List.{drop_all}
 use Rattle.hol_device_io.proofs.BytesLemmas.{held_at, fails_at, ends}
 use Rattle.hol_device_io.proofs.bytes.write_pieces.Goals as goal
 
-pub returns-in-Err-clause-err : goal.returns-in-Err-clause-err
-returns-in-Err-clause-err g c = fails_at c.args.pieces.now c.loop-piece.piece-index _ (search rules) c.loop-piece.invariant.0 c.in-Err.ensures.err
+pub returns-in_err-held-clause-err : goal.returns-in_err-held-clause-err
+returns-in_err-held-clause-err g c =
+    let p = err_from_is_err_and c.from_residual.result c.from_residual.ensures.1 in
+    rw p.1 (fails_at c.args.pieces.now c.loop-piece.piece-index _ (search rules) c.loop-piece.invariant.0 c.in_err-held.ensures.err)
 
 pub loop-piece-preserved : goal.loop-piece-preserved
 loop-piece-preserved g c = (
-  held_at c.args.pieces.now c.loop-piece.piece-index _ (search rules) c.loop-piece.invariant.0 c.in-Ok.ensures.ok,
+  held_at c.args.pieces.now c.loop-piece.piece-index _ (search rules) c.loop-piece.invariant.0 c.in_ok-held.ensures.ok,
   search rules,
   search rules,
 )
