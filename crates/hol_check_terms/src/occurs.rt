@@ -56,10 +56,7 @@ fn occurs_in(
         TermShape::Constant(_name, _ty) => Ok(false),
         TermShape::Bound(_index) => Ok(false),
         TermShape::Application(function, argument) => {
-            let found = match occurs_in(terms, absent, variable, function) {
-                Ok(found) => found,
-                Err(fault) => return Err(fault),
-            };
+            let found = occurs_in(terms, absent, variable, function)?;
             if found {
                 return Ok(true);
             }

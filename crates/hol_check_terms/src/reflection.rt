@@ -46,10 +46,7 @@ fn reflects_in(
         TermShape::Constant(_name, ty) => Ok(reflects_type(terms, whole, ty)),
         TermShape::Bound(_index) => Ok(true),
         TermShape::Application(function, argument) => {
-            let first = match reflects_in(terms, seen, whole, function) {
-                Ok(first) => first,
-                Err(fault) => return Err(fault),
-            };
+            let first = reflects_in(terms, seen, whole, function)?;
             if !first {
                 return Ok(false);
             }

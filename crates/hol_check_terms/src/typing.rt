@@ -70,10 +70,7 @@ fn type_under(
             if let Some(ty) = recall_type(known, number) {
                 return Ok(ty);
             }
-            let function_ty = match type_under(alloc, terms, known, &*binders, function) {
-                Ok(function_ty) => function_ty,
-                Err(fault) => return Err(fault),
-            };
+            let function_ty = type_under(alloc, terms, known, &*binders, function)?;
             match type_under(alloc, terms, known, &*binders, argument) {
                 Ok(_argument_ty) => match codomain(terms, function_ty) {
                     Ok(ty) => keep(terms, known, number, ty),

@@ -46,8 +46,8 @@ type_under-type_under-requires-in-Application t c =
     )
 
 pub type_under-codomain-requires : goal.type_under-codomain-requires
-type_under-codomain-requires t c = type-within c.type_under.new.terms.types c.type_under-in-Application.new.terms.types c.in-Ok.function_ty c.type_under-in-Application.ensures.grows.types
-    (is_within _ c.in-Ok.function_ty _ c.in-Ok.ensures.typed.number)
+type_under-codomain-requires t c = type-within c.type_under.new.terms.types c.type_under-in-Application.new.terms.types c.in_ok-function_ty-in-Application.function_ty c.type_under-in-Application.ensures.grows.types
+    (is_within _ c.in_ok-function_ty-in-Application.function_ty _ c.in_ok-function_ty-in-Application.ensures.typed.number)
 
 pub type_under-keep-requires-clause-typed : goal.type_under-keep-requires-clause-typed
 type_under-keep-requires-clause-typed t c =
@@ -56,10 +56,10 @@ type_under-keep-requires-clause-typed t c =
     let t2 = c.type_under-in-Application.new.terms in
     let t3 = c.codomain.new.terms in
     let binders = c.args.binders.now in
-    let made = application-typed t0 t1 t2 t3.types binders (term_at t0.terms c.args.number) c.args.number c.in-Application.function c.in-Application.argument c.in-Ok.function_ty
-    c.in-Ok-type_under._argument_ty (Ok c.in-Ok-codomain.ty)
+    let made = application-typed t0 t1 t2 t3.types binders (term_at t0.terms c.args.number) c.args.number c.in-Application.function c.in-Application.argument c.in_ok-function_ty-in-Application.function_ty
+    c.in-Ok._argument_ty (Ok c.in-Ok-codomain.ty)
     c.type_under.ensures.grows c.type_under-in-Application.ensures.grows c.requires.binders c.in-Application.ensures.parts.1 c.requires.number c.in-Application.ensures.shape
-    c.in-Ok.ensures.typed c.in-Ok-type_under.ensures.typed c.in-Ok-codomain.ensures.number tt in
+    c.in_ok-function_ty-in-Application.ensures.typed c.in-Ok.ensures.typed c.in-Ok-codomain.ensures.number tt in
     let grown = IsGrown-trans t0 t1 t3 c.type_under.ensures.grows (IsGrown-trans t1 t2 t3 c.type_under-in-Application.ensures.grows c.in-Ok-codomain.ensures.grows) in
     typed-under_some t3.types (binder_types t0.types binders) (term_at t3.terms c.args.number) c.in-Ok-codomain.ty
     (subst (λ u. AnswersTyping (binder_types t0.types binders) u (Ok c.in-Ok-codomain.ty) t3.types) (sym (term-grown t0 t3 c.args.number grown c.requires.number)) made)
@@ -71,10 +71,10 @@ type_under-returns-in-Ok-codomain-clause-typed t c =
     let t2 = c.type_under-in-Application.new.terms in
     let t3 = c.codomain.new.terms in
     let binders = c.args.binders.now in
-    let made = application-typed t0 t1 t2 t3.types binders (term_at t0.terms c.args.number) c.args.number c.in-Application.function c.in-Application.argument c.in-Ok.function_ty
-    c.in-Ok-type_under._argument_ty (Ok c.in-Ok-codomain.ty)
+    let made = application-typed t0 t1 t2 t3.types binders (term_at t0.terms c.args.number) c.args.number c.in-Application.function c.in-Application.argument c.in_ok-function_ty-in-Application.function_ty
+    c.in-Ok._argument_ty (Ok c.in-Ok-codomain.ty)
     c.type_under.ensures.grows c.type_under-in-Application.ensures.grows c.requires.binders c.in-Application.ensures.parts.1 c.requires.number c.in-Application.ensures.shape
-    c.in-Ok.ensures.typed c.in-Ok-type_under.ensures.typed c.in-Ok-codomain.ensures.number tt in
+    c.in_ok-function_ty-in-Application.ensures.typed c.in-Ok.ensures.typed c.in-Ok-codomain.ensures.number tt in
     typed-kept t3.types c.keep.new.terms.types (binder_types t0.types binders) (term_at t0.terms c.args.number) c.in-Ok-codomain.ty c.keep.result c.keep.ensures.grows.types made
     c.keep.ensures.same c.keep.ensures.refused
 
@@ -86,17 +86,17 @@ type_under-returns-in-Ok-codomain-clause-known t c =
     let t3 = c.codomain.new.terms in
     let t4 = c.keep.new.terms in
     let binders = c.args.binders.now in
-    let made = application-typed t0 t1 t2 t3.types binders (term_at t0.terms c.args.number) c.args.number c.in-Application.function c.in-Application.argument c.in-Ok.function_ty
-    c.in-Ok-type_under._argument_ty (Ok c.in-Ok-codomain.ty)
+    let made = application-typed t0 t1 t2 t3.types binders (term_at t0.terms c.args.number) c.args.number c.in-Application.function c.in-Application.argument c.in_ok-function_ty-in-Application.function_ty
+    c.in-Ok._argument_ty (Ok c.in-Ok-codomain.ty)
     c.type_under.ensures.grows c.type_under-in-Application.ensures.grows c.requires.binders c.in-Application.ensures.parts.1 c.requires.number c.in-Application.ensures.shape
-    c.in-Ok.ensures.typed c.in-Ok-type_under.ensures.typed c.in-Ok-codomain.ensures.number tt in
+    c.in_ok-function_ty-in-Application.ensures.typed c.in-Ok.ensures.typed c.in-Ok-codomain.ensures.number tt in
     let grown2 = IsGrown-trans t0 t1 t2 c.type_under.ensures.grows c.type_under-in-Application.ensures.grows in
     let still2 = types-still t0.types t2.types grown2.types binders c.requires.binders in
     let grown3 = IsGrown-trans t0 t2 t3 grown2 c.in-Ok-codomain.ensures.grows in
     known-kept t0 t3 t4 binders c.type_under-in-Application.new.known.entries c.keep.new.known.entries c.args.number c.in-Ok-codomain.ty grown3 c.keep.ensures.grows
     (IsGrown-trans t0 t3 t4 grown3 c.keep.ensures.grows) c.requires.binders
     (types-still t0.types t3.types grown3.types binders c.requires.binders) c.requires.number made c.keep.ensures.added
-    (known-grown t2 t3 binders c.type_under-in-Application.new.known.entries c.in-Ok-codomain.ensures.grows still2 c.in-Ok-type_under.ensures.known)
+    (known-grown t2 t3 binders c.type_under-in-Application.new.known.entries c.in-Ok-codomain.ensures.grows still2 c.in-Ok.ensures.known)
 
 pub type_under-returns-in-Err-codomain-clause-known : goal.type_under-returns-in-Err-codomain-clause-known
 type_under-returns-in-Err-codomain-clause-known t c =
@@ -106,14 +106,14 @@ type_under-returns-in-Err-codomain-clause-known t c =
     let binders = c.args.binders.now in
     let grown2 = IsGrown-trans t0 t1 t2 c.type_under.ensures.grows c.type_under-in-Application.ensures.grows in
     known-grown t2 c.codomain.new.terms binders c.type_under-in-Application.new.known.entries c.in-Err-codomain.ensures.grows
-    (types-still t0.types t2.types grown2.types binders c.requires.binders) c.in-Ok-type_under.ensures.known
+    (types-still t0.types t2.types grown2.types binders c.requires.binders) c.in-Ok.ensures.known
 
-pub type_under-returns-in-Err-type_under-clause-typed : goal.type_under-returns-in-Err-type_under-clause-typed
-type_under-returns-in-Err-type_under-clause-typed t c =
+pub type_under-returns-in-Err-clause-typed : goal.type_under-returns-in-Err-clause-typed
+type_under-returns-in-Err-clause-typed t c =
     let t0 = c.args.terms.now in
     argument-refused t0 c.type_under.new.terms c.type_under-in-Application.new.terms.types c.args.binders.now (term_at t0.terms c.args.number) c.args.number c.in-Application.function
-    c.in-Application.argument c.in-Err-type_under.fault
-    c.type_under.ensures.grows c.requires.binders c.in-Application.ensures.parts.1 c.requires.number c.in-Application.ensures.shape c.in-Err-type_under.ensures.typed
+    c.in-Application.argument c.in-Err.fault
+    c.type_under.ensures.grows c.requires.binders c.in-Application.ensures.parts.1 c.requires.number c.in-Application.ensures.shape c.in-Err.ensures.typed
 
 -- abstractions
 
