@@ -49,14 +49,8 @@ fn change_at(
             if let Some(new) = recall(parts, place) {
                 return Ok(new);
             }
-            let new_function = match change_at(terms, parts, types, change, passed, function) {
-                Ok(new_function) => new_function,
-                Err(fault) => return Err(fault),
-            };
-            let new_argument = match change_at(terms, parts, types, change, passed, argument) {
-                Ok(new_argument) => new_argument,
-                Err(fault) => return Err(fault),
-            };
+            let new_function = change_at(terms, parts, types, change, passed, function)?;
+            let new_argument = change_at(terms, parts, types, change, passed, argument)?;
             match terms.application(new_function, new_argument) {
                 Ok(new) => remember(parts, place, new),
                 Err(fault) => Err(fault),
@@ -66,15 +60,9 @@ fn change_at(
             if let Some(new) = recall(parts, place) {
                 return Ok(new);
             }
-            let new_ty = match change_type(terms, types, change, ty) {
-                Ok(new_ty) => new_ty,
-                Err(fault) => return Err(fault),
-            };
+            let new_ty = change_type(terms, types, change, ty)?;
             let inside = deeper(change, passed);
-            let new_body = match change_at(terms, parts, types, change, inside, body) {
-                Ok(new_body) => new_body,
-                Err(fault) => return Err(fault),
-            };
+            let new_body = change_at(terms, parts, types, change, inside, body)?;
             match terms.abstraction(new_ty, new_body) {
                 Ok(new) => remember(parts, place, new),
                 Err(fault) => Err(fault),

@@ -38,14 +38,8 @@ fn equality_type(terms: &mut Terms, ty: usize) -> Result<usize, Fault>
     ensures made { IsMadeType (theory.equality_type (type_at terms.old.types ty)) result terms.new.types }
     ensures grows { IsGrown terms.old terms.new }
 {
-    let boolean = match terms.boolean() {
-        Ok(boolean) => boolean,
-        Err(fault) => return Err(fault),
-    };
-    let predicates = match terms.function_type(ty, boolean) {
-        Ok(predicates) => predicates,
-        Err(fault) => return Err(fault),
-    };
+    let boolean = terms.boolean()?;
+    let predicates = terms.function_type(ty, boolean)?;
     terms.function_type(ty, predicates)
 }
 
@@ -239,14 +233,8 @@ fn equation_at(
     ensures formed { IsFormed (nameless_equation (type_at terms.old.types ty) (term_at terms.old.terms left) (term_at terms.old.terms right)) result terms.new.terms }
     ensures grows { IsGrown terms.old terms.new }
 {
-    let equality_ty = match equality_type(terms, ty) {
-        Ok(equality_ty) => equality_ty,
-        Err(fault) => return Err(fault),
-    };
-    let equality = match constant(alloc, terms, b"=", equality_ty) {
-        Ok(equality) => equality,
-        Err(fault) => return Err(fault),
-    };
+    let equality_ty = equality_type(terms, ty)?;
+    let equality = constant(alloc, terms, b"=", equality_ty)?;
     applied_to_both(alloc, terms, equality, left, right)
 }
 
@@ -264,10 +252,7 @@ fn applied_to_both(
     ensures formed { IsFormed (app (app (term_at terms.old.terms function) (term_at terms.old.terms left)) (term_at terms.old.terms right)) result terms.new.terms }
     ensures grows { IsGrown terms.old terms.new }
 {
-    let half = match application(terms, function, left) {
-        Ok(half) => half,
-        Err(fault) => return Err(fault),
-    };
+    let half = application(terms, function, left)?;
     match application(terms, half, right) {
         Ok(whole) => within_limits(alloc, terms, whole),
         Err(fault) => Err(fault),
@@ -289,10 +274,7 @@ pub fn equation_of_applications(
         (app (term_at terms.old.terms right.0) (term_at terms.old.terms right.1))) result terms.new.terms }
     ensures grows { IsGrown terms.old terms.new }
 {
-    let left = match application(terms, left.0, left.1) {
-        Ok(left) => left,
-        Err(fault) => return Err(fault),
-    };
+    let left = application(terms, left.0, left.1)?;
     match application(terms, right.0, right.1) {
         Ok(right) => equation_of(alloc, terms, left, right),
         Err(fault) => Err(fault),
@@ -314,10 +296,7 @@ pub fn equation_of_abstractions(
         IsFormed (sequents.equation_of (over (term_at terms.old.terms left)) (over (term_at terms.old.terms right))) result terms.new.terms }
     ensures grows { IsGrown terms.old terms.new }
 {
-    let left = match abstraction_over(alloc, terms, variable, left) {
-        Ok(left) => left,
-        Err(fault) => return Err(fault),
-    };
+    let left = abstraction_over(alloc, terms, variable, left)?;
     match abstraction_over(alloc, terms, variable, right) {
         Ok(right) => equation_of(alloc, terms, left, right),
         Err(fault) => Err(fault),
@@ -344,10 +323,7 @@ pub fn sides_fit(terms: &mut Terms, first: usize, second: usize) -> Result<bool,
     ensures refused { IfErr result (λ fault. fault ≡ Memory) }
     ensures grows { IsGrown terms.old terms.new }
 {
-    let function = match side_type(terms, first) {
-        Ok(function) => function,
-        Err(fault) => return Err(fault),
-    };
+    let function = side_type(terms, first)?;
     match side_type(terms, second) {
         Ok(argument) => Ok(takes(terms, function, argument)),
         Err(fault) => Err(fault),

@@ -35,14 +35,8 @@ pub(crate) fn instantiate_type(
             if let Some(new) = recall_type(types, ty) {
                 return Ok(new);
             }
-            let new_domain = match instantiate_type(terms, types, pairs, domain) {
-                Ok(new_domain) => new_domain,
-                Err(fault) => return Err(fault),
-            };
-            let new_codomain = match instantiate_type(terms, types, pairs, codomain) {
-                Ok(new_codomain) => new_codomain,
-                Err(fault) => return Err(fault),
-            };
+            let new_domain = instantiate_type(terms, types, pairs, domain)?;
+            let new_codomain = instantiate_type(terms, types, pairs, codomain)?;
             match terms.function_type(new_domain, new_codomain) {
                 Ok(new) => remember_type(types, ty, new),
                 Err(fault) => Err(fault),

@@ -1,4 +1,5 @@
 use Rattle.std.proofs.Common.{◌+◌, ◌<◌, ◌≤◌, length, sym, ◌∙◌, ap, subst, arith}
+use Rattle.std.proofs.lemmas.Result.{err_from_is_err_and}
 use Rattle.hol_model.specs.Terms.Nameless.{Nameless, app, lam}
 use Rattle.hol_model.specs.Terms.Measures.{nameless_height}
 use Rattle.hol_check_terms.specs.Terms.{term_at, type_at}
@@ -29,12 +30,14 @@ pub returns-in-Some-clause-changed : goal.returns-in-Some-clause-changed
 returns-in-Some-clause-changed t c = λ meaning held.
     answers-known c.args.terms.now c.args.change.now c.args.parts.now.entries c.args.types.now.entries meaning c.args.passed c.args.number c.in-Some.new c.in-Some.ensures held
 
-pub returns-in-Err-clause-changed : goal.returns-in-Err-clause-changed
-returns-in-Err-clause-changed t c = λ meaning held.
+pub returns-in_err-new_function-in-Application-clause-changed : goal.returns-in_err-new_function-in-Application-clause-changed
+returns-in_err-new_function-in-Application-clause-changed t c = λ meaning held.
+    let p = err_from_is_err_and c.from_residual.result c.from_residual.ensures.1 in
     let terms = c.args.terms.now.terms in
-    refused-function meaning c.args.passed (term_at terms c.args.number) (term_at terms c.in-Application.function) (term_at terms c.in-Application.argument) c.in-Application.ensures.shape
-    c.in-Err.fault
-    c.change_at.new.terms c.args.change.now c.change_at.new.parts.entries c.change_at.new.types.entries (c.in-Err.ensures.changed meaning held)
+    rw (p.1, p.2)
+    (refused-function meaning c.args.passed (term_at terms c.args.number) (term_at terms c.in-Application.function) (term_at terms c.in-Application.argument) c.in-Application.ensures.shape
+    c.in_err-new_function-in-Application.field-0.0
+    c.change_at.new.terms c.args.change.now c.change_at.new.parts.entries c.change_at.new.types.entries (c.in_err-new_function-in-Application.ensures.changed meaning held))
 
 pub change_at-requires-in-Application : goal.change_at-requires-in-Application
 change_at-requires-in-Application t c =
@@ -58,33 +61,35 @@ change_at-requires-in-Application t c =
       ),
     )
 
-pub returns-in-Err-change_at-clause-changed : goal.returns-in-Err-change_at-clause-changed
-returns-in-Err-change_at-clause-changed t c = λ meaning held.
+pub returns-in_err-new_argument-in-Application-clause-changed : goal.returns-in_err-new_argument-in-Application-clause-changed
+returns-in_err-new_argument-in-Application-clause-changed t c = λ meaning held.
+    let p = err_from_is_err_and c.from_residual-in_err-new_argument-in-Application.result c.from_residual-in_err-new_argument-in-Application.ensures.1 in
     let t0 = c.args.terms.now in
     let t1 = c.change_at.new.terms in
     let before : c.in-Application.argument < c.args.number = c.in-Application.ensures.parts.1 in
     let known : c.args.number < length t0.terms = c.requires.number in
     let within : c.in-Application.argument < length t0.terms = omega arith in
-    let first = c.in-Ok.ensures.changed meaning held in
-    refused-argument meaning c.args.passed (term_at t0.terms c.args.number) (term_at t0.terms c.in-Application.function) (term_at t1.terms c.in-Application.argument)
+    let first = c.in_ok-new_function-in-Application.ensures.changed meaning held in
+    rw (p.1, p.2)
+    (refused-argument meaning c.args.passed (term_at t0.terms c.args.number) (term_at t0.terms c.in-Application.function) (term_at t1.terms c.in-Application.argument)
     (c.in-Application.ensures.shape ∙ ap (app (term_at t0.terms c.in-Application.function)) (sym (term-grown t0 t1 c.in-Application.argument c.change_at.ensures.grows within)))
-    c.in-Err-change_at.fault
+    c.in_err-new_argument-in-Application.field-0.0
     c.change_at-in-Application.new.terms c.args.change.now c.change_at-in-Application.new.parts.entries c.change_at-in-Application.new.types.entries
-    (c.in-Err-change_at.ensures.changed meaning first.held)
+    (c.in_err-new_argument-in-Application.ensures.changed meaning first.held))
 
 pub application-requires-clause-function : goal.application-requires-clause-function
 application-requires-clause-function t c =
     let work = c.requires.work in
-    within-grown c.change_at.new.terms c.change_at-in-Application.new.terms c.in-Ok.new_function c.change_at-in-Application.ensures.grows
-    (is_within _ c.in-Ok.new_function _ (c.in-Ok.ensures.changed work.meaning work.held).answered.number)
+    within-grown c.change_at.new.terms c.change_at-in-Application.new.terms c.in_ok-new_function-in-Application.new_function c.change_at-in-Application.ensures.grows
+    (is_within _ c.in_ok-new_function-in-Application.new_function _ (c.in_ok-new_function-in-Application.ensures.changed work.meaning work.held).answered.number)
 
 pub application-requires-clause-argument : goal.application-requires-clause-argument
 application-requires-clause-argument t c =
     let work = c.requires.work in
-    is_within _ c.in-Ok-change_at.new_argument _ (c.in-Ok-change_at.ensures.changed work.meaning (c.in-Ok.ensures.changed work.meaning work.held).held).answered.number
+    is_within _ c.in_ok-new_argument-in-Application.new_argument _ (c.in_ok-new_argument-in-Application.ensures.changed work.meaning (c.in_ok-new_function-in-Application.ensures.changed work.meaning work.held).held).answered.number
 
-pub returns-in-Ok-application-clause-changed : goal.returns-in-Ok-application-clause-changed
-returns-in-Ok-application-clause-changed t c = λ meaning held.
+pub returns-in-Ok-clause-changed : goal.returns-in-Ok-clause-changed
+returns-in-Ok-clause-changed t c = λ meaning held.
     let t0 = c.args.terms.now in
     let t1 = c.change_at.new.terms in
     let t2 = c.change_at-in-Application.new.terms in
@@ -92,20 +97,20 @@ returns-in-Ok-application-clause-changed t c = λ meaning held.
     let before : c.in-Application.argument < c.args.number = c.in-Application.ensures.parts.1 in
     let known : c.args.number < length t0.terms = c.requires.number in
     let within : c.in-Application.argument < length t0.terms = omega arith in
-    let first = c.in-Ok.ensures.changed meaning held in
-    let second = c.in-Ok-change_at.ensures.changed meaning first.held in
+    let first = c.in_ok-new_function-in-Application.ensures.changed meaning held in
+    let second = c.in_ok-new_argument-in-Application.ensures.changed meaning first.held in
     let shape = c.in-Application.ensures.shape ∙ ap (app (term_at t0.terms c.in-Application.function)) (sym (term-grown t0 t1 c.in-Application.argument c.change_at.ensures.grows within)) in
     let parts = application-parts t1 t2 meaning c.args.passed (term_at t0.terms c.args.number) (term_at t0.terms c.in-Application.function) (term_at t1.terms c.in-Application.argument)
-    c.in-Ok.new_function c.in-Ok-change_at.new_argument
+    c.in_ok-new_function-in-Application.new_function c.in_ok-new_argument-in-Application.new_argument
     c.change_at-in-Application.ensures.grows shape first.answered.number second.answered.number in
     answers-made t0 t2 t3 c.args.change.now c.change_at-in-Application.new.parts.entries c.remember.new.parts.entries c.change_at-in-Application.new.types.entries meaning c.args.passed
-    c.args.number _ c.in-Ok-application.new c.remember.result
+    c.args.number _ c.in-Ok.new c.remember.result
     (IsGrown-trans t0 t1 t3 c.change_at.ensures.grows (IsGrown-trans t1 t2 t3 c.change_at-in-Application.ensures.grows c.application.ensures.grows)) c.application.ensures.grows
-    c.requires.number parts c.in-Ok-application.ensures.number second.held
+    c.requires.number parts c.in-Ok.ensures.number second.held
     c.remember.ensures.new c.remember.ensures.refused c.remember.ensures.added
 
-pub returns-in-Err-application-clause-changed : goal.returns-in-Err-application-clause-changed
-returns-in-Err-application-clause-changed t c = λ meaning held.
+pub returns-in-Err-clause-changed : goal.returns-in-Err-clause-changed
+returns-in-Err-clause-changed t c = λ meaning held.
     let t0 = c.args.terms.now in
     let t1 = c.change_at.new.terms in
     let t2 = c.change_at-in-Application.new.terms in
@@ -113,14 +118,14 @@ returns-in-Err-application-clause-changed t c = λ meaning held.
     let before : c.in-Application.argument < c.args.number = c.in-Application.ensures.parts.1 in
     let known : c.args.number < length t0.terms = c.requires.number in
     let within : c.in-Application.argument < length t0.terms = omega arith in
-    let first = c.in-Ok.ensures.changed meaning held in
-    let second = c.in-Ok-change_at.ensures.changed meaning first.held in
+    let first = c.in_ok-new_function-in-Application.ensures.changed meaning held in
+    let second = c.in_ok-new_argument-in-Application.ensures.changed meaning first.held in
     let shape = c.in-Application.ensures.shape ∙ ap (app (term_at t0.terms c.in-Application.function)) (sym (term-grown t0 t1 c.in-Application.argument c.change_at.ensures.grows within)) in
     let parts = application-parts t1 t2 meaning c.args.passed (term_at t0.terms c.args.number) (term_at t0.terms c.in-Application.function) (term_at t1.terms c.in-Application.argument)
-    c.in-Ok.new_function c.in-Ok-change_at.new_argument
+    c.in_ok-new_function-in-Application.new_function c.in_ok-new_argument-in-Application.new_argument
     c.change_at-in-Application.ensures.grows shape first.answered.number second.answered.number in
-    answers-refused t2 t3 c.args.change.now c.change_at-in-Application.new.parts.entries c.change_at-in-Application.new.types.entries meaning _ _ c.in-Err-application.fault
-    c.application.ensures.grows parts c.in-Err-application.ensures.refused second.held
+    answers-refused t2 t3 c.args.change.now c.change_at-in-Application.new.parts.entries c.change_at-in-Application.new.types.entries meaning _ _ c.in-Err.fault
+    c.application.ensures.grows parts c.in-Err.ensures.refused second.held
 
 -- abstractions
 
@@ -128,12 +133,14 @@ pub returns-in-Some-recall-clause-changed : goal.returns-in-Some-recall-clause-c
 returns-in-Some-recall-clause-changed t c = λ meaning held.
     answers-known c.args.terms.now c.args.change.now c.args.parts.now.entries c.args.types.now.entries meaning c.args.passed c.args.number c.in-Some-recall.new c.in-Some-recall.ensures held
 
-pub returns-in-Err-change_type-clause-changed : goal.returns-in-Err-change_type-clause-changed
-returns-in-Err-change_type-clause-changed t c = λ meaning held.
+pub returns-in_err-new_ty-in-Abstraction-clause-changed : goal.returns-in_err-new_ty-in-Abstraction-clause-changed
+returns-in_err-new_ty-in-Abstraction-clause-changed t c = λ meaning held.
+    let p = err_from_is_err_and c.from_residual-in_err-new_ty-in-Abstraction.result c.from_residual-in_err-new_ty-in-Abstraction.ensures.1 in
     let t0 = c.args.terms.now in
-    refused-binder meaning c.args.passed (term_at t0.terms c.args.number) (type_at t0.types c.in-Abstraction.ty) (term_at t0.terms c.in-Abstraction.body) c.in-Abstraction.ensures.shape
-    c.in-Err-change_type.fault t0 c.change_type.new.terms c.args.change.now
-    c.args.parts.now.entries c.args.types.now.entries c.change_type.new.types.entries c.change_type.ensures.grows held (c.in-Err-change_type.ensures.changed meaning held.held)
+    rw (p.1, p.2)
+    (refused-binder meaning c.args.passed (term_at t0.terms c.args.number) (type_at t0.types c.in-Abstraction.ty) (term_at t0.terms c.in-Abstraction.body) c.in-Abstraction.ensures.shape
+    c.in_err-new_ty-in-Abstraction.field-0.0 t0 c.change_type.new.terms c.args.change.now
+    c.args.parts.now.entries c.args.types.now.entries c.change_type.new.types.entries c.change_type.ensures.grows held (c.in_err-new_ty-in-Abstraction.ensures.changed meaning held.held))
 
 pub change_at-requires-in-Abstraction : goal.change_at-requires-in-Abstraction
 change_at-requires-in-Abstraction t c =
@@ -160,8 +167,9 @@ change_at-requires-in-Abstraction t c =
       ),
     )
 
-pub returns-in-Err-change_at-2-clause-changed : goal.returns-in-Err-change_at-2-clause-changed
-returns-in-Err-change_at-2-clause-changed t c = λ meaning held.
+pub returns-in_err-new_body-in-Abstraction-clause-changed : goal.returns-in_err-new_body-in-Abstraction-clause-changed
+returns-in_err-new_body-in-Abstraction-clause-changed t c = λ meaning held.
+    let p = err_from_is_err_and c.from_residual-in_err-new_body-in-Abstraction.result c.from_residual-in_err-new_body-in-Abstraction.ensures.1 in
     let t0 = c.args.terms.now in
     let t1 = c.change_type.new.terms in
     let before : c.in-Abstraction.body < c.args.number = c.in-Abstraction.ensures.parts.1 in
@@ -169,25 +177,26 @@ returns-in-Err-change_at-2-clause-changed t c = λ meaning held.
     let within : c.in-Abstraction.body < length t0.terms = omega arith in
     let same = term-grown t0 t1 c.in-Abstraction.body c.change_type.ensures.grows within in
     let after = held-after-type meaning t0 t1 c.args.change.now c.args.parts.now.entries c.args.types.now.entries c.change_type.new.types.entries c.change_type.ensures.grows held
-    (c.in-Ok-change_type.ensures.changed meaning held.held).held in
-    refused-body meaning c.args.passed c.deeper-inside.result (term_at t0.terms c.args.number) (type_at t0.types c.in-Abstraction.ty) (term_at t1.terms c.in-Abstraction.body)
+    (c.in_ok-new_ty-in-Abstraction.ensures.changed meaning held.held).held in
+    rw (p.1, p.2)
+    (refused-body meaning c.args.passed c.deeper-inside.result (term_at t0.terms c.args.number) (type_at t0.types c.in-Abstraction.ty) (term_at t1.terms c.in-Abstraction.body)
     (c.in-Abstraction.ensures.shape ∙ ap (lam (type_at t0.types c.in-Abstraction.ty)) (sym same))
-    (under-is t0 c.args.change.now meaning held.held.meant c.args.passed c.deeper-inside.result c.deeper-inside.ensures) c.in-Err-change_at-2.fault c.change_at-in-Abstraction.new.terms
+    (under-is t0 c.args.change.now meaning held.held.meant c.args.passed c.deeper-inside.result c.deeper-inside.ensures) c.in_err-new_body-in-Abstraction.field-0.0 c.change_at-in-Abstraction.new.terms
     c.args.change.now c.change_at-in-Abstraction.new.parts.entries c.change_at-in-Abstraction.new.types.entries
-    (c.in-Err-change_at-2.ensures.changed meaning after)
+    (c.in_err-new_body-in-Abstraction.ensures.changed meaning after))
 
 pub abstraction-requires-clause-ty : goal.abstraction-requires-clause-ty
 abstraction-requires-clause-ty t c =
     let work = c.requires.work in
-    type-within c.change_type.new.terms.types c.change_at-in-Abstraction.new.terms.types c.in-Ok-change_type.new_ty c.change_at-in-Abstraction.ensures.grows.types
-    (is_within _ c.in-Ok-change_type.new_ty _ (c.in-Ok-change_type.ensures.changed work.meaning work.held.held).number)
+    type-within c.change_type.new.terms.types c.change_at-in-Abstraction.new.terms.types c.in_ok-new_ty-in-Abstraction.new_ty c.change_at-in-Abstraction.ensures.grows.types
+    (is_within _ c.in_ok-new_ty-in-Abstraction.new_ty _ (c.in_ok-new_ty-in-Abstraction.ensures.changed work.meaning work.held.held).number)
 
 pub abstraction-requires-clause-body : goal.abstraction-requires-clause-body
 abstraction-requires-clause-body t c =
     let work = c.requires.work in
     let after = held-after-type work.meaning c.args.terms.now c.change_type.new.terms c.args.change.now c.args.parts.now.entries c.args.types.now.entries c.change_type.new.types.entries
-    c.change_type.ensures.grows work.held (c.in-Ok-change_type.ensures.changed work.meaning work.held.held).held in
-    is_within _ c.in-Ok-change_at-2.new_body _ (c.in-Ok-change_at-2.ensures.changed work.meaning after).answered.number
+    c.change_type.ensures.grows work.held (c.in_ok-new_ty-in-Abstraction.ensures.changed work.meaning work.held.held).held in
+    is_within _ c.in_ok-new_body-in-Abstraction.new_body _ (c.in_ok-new_body-in-Abstraction.ensures.changed work.meaning after).answered.number
 
 pub returns-in-Ok-abstraction-clause-changed : goal.returns-in-Ok-abstraction-clause-changed
 returns-in-Ok-abstraction-clause-changed t c = λ meaning held.
@@ -199,11 +208,11 @@ returns-in-Ok-abstraction-clause-changed t c = λ meaning held.
     let known : c.args.number < length t0.terms = c.requires.number in
     let within : c.in-Abstraction.body < length t0.terms = omega arith in
     let same = term-grown t0 t1 c.in-Abstraction.body c.change_type.ensures.grows within in
-    let first = c.in-Ok-change_type.ensures.changed meaning held.held in
+    let first = c.in_ok-new_ty-in-Abstraction.ensures.changed meaning held.held in
     let after = held-after-type meaning t0 t1 c.args.change.now c.args.parts.now.entries c.args.types.now.entries c.change_type.new.types.entries c.change_type.ensures.grows held first.held in
-    let second = c.in-Ok-change_at-2.ensures.changed meaning after in
+    let second = c.in_ok-new_body-in-Abstraction.ensures.changed meaning after in
     let parts = abstraction-parts t1 t2 meaning c.args.passed c.deeper-inside.result (term_at t0.terms c.args.number) (type_at t0.types c.in-Abstraction.ty)
-    (term_at t1.terms c.in-Abstraction.body) c.in-Ok-change_type.new_ty c.in-Ok-change_at-2.new_body
+    (term_at t1.terms c.in-Abstraction.body) c.in_ok-new_ty-in-Abstraction.new_ty c.in_ok-new_body-in-Abstraction.new_body
     c.change_at-in-Abstraction.ensures.grows (c.in-Abstraction.ensures.shape ∙ ap (lam (type_at t0.types c.in-Abstraction.ty)) (sym same))
     (under-is t0 c.args.change.now meaning held.held.meant c.args.passed c.deeper-inside.result c.deeper-inside.ensures) first.number second.answered.number in
     answers-made t0 t2 t3 c.args.change.now c.change_at-in-Abstraction.new.parts.entries c.remember-in-Ok-abstraction.new.parts.entries c.change_at-in-Abstraction.new.types.entries meaning
@@ -222,11 +231,11 @@ returns-in-Err-abstraction-clause-changed t c = λ meaning held.
     let known : c.args.number < length t0.terms = c.requires.number in
     let within : c.in-Abstraction.body < length t0.terms = omega arith in
     let same = term-grown t0 t1 c.in-Abstraction.body c.change_type.ensures.grows within in
-    let first = c.in-Ok-change_type.ensures.changed meaning held.held in
+    let first = c.in_ok-new_ty-in-Abstraction.ensures.changed meaning held.held in
     let after = held-after-type meaning t0 t1 c.args.change.now c.args.parts.now.entries c.args.types.now.entries c.change_type.new.types.entries c.change_type.ensures.grows held first.held in
-    let second = c.in-Ok-change_at-2.ensures.changed meaning after in
+    let second = c.in_ok-new_body-in-Abstraction.ensures.changed meaning after in
     let parts = abstraction-parts t1 t2 meaning c.args.passed c.deeper-inside.result (term_at t0.terms c.args.number) (type_at t0.types c.in-Abstraction.ty)
-    (term_at t1.terms c.in-Abstraction.body) c.in-Ok-change_type.new_ty c.in-Ok-change_at-2.new_body
+    (term_at t1.terms c.in-Abstraction.body) c.in_ok-new_ty-in-Abstraction.new_ty c.in_ok-new_body-in-Abstraction.new_body
     c.change_at-in-Abstraction.ensures.grows (c.in-Abstraction.ensures.shape ∙ ap (lam (type_at t0.types c.in-Abstraction.ty)) (sym same))
     (under-is t0 c.args.change.now meaning held.held.meant c.args.passed c.deeper-inside.result c.deeper-inside.ensures) first.number second.answered.number in
     answers-refused t2 t3 c.args.change.now c.change_at-in-Abstraction.new.parts.entries c.change_at-in-Abstraction.new.types.entries meaning _ _ c.in-Err-abstraction.fault

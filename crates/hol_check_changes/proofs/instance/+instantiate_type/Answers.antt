@@ -1,4 +1,5 @@
 use Rattle.std.proofs.Common.{◌<◌, length, sym, ◌∙◌, ap, Some, arith}
+use Rattle.std.proofs.lemmas.Result.{err_from_is_err_and}
 use Rattle.hol_model.specs.Terms.HolType.{function_type}
 use Rattle.hol_check_terms.specs.Terms.{type_at}
 use Rattle.hol_check_changes.specs.TypeChange.{type_change}
@@ -21,12 +22,14 @@ pub returns-in-Declared-clause-changed : goal.returns-in-Declared-clause-changed
 returns-in-Declared-clause-changed t c = λ theta are memo.
     answers-kept c.args.terms.now.types (type_change theta) c.args.ty c.requires.ty (ap (type_change theta) c.in-Declared.ensures.shape ∙ sym c.in-Declared.ensures.shape) c.args.types.now.entries memo
 
-pub returns-in-Err-clause-changed : goal.returns-in-Err-clause-changed
-returns-in-Err-clause-changed t c = λ theta are memo.
+pub returns-in_err-new_domain-in-Function-clause-changed : goal.returns-in_err-new_domain-in-Function-clause-changed
+returns-in_err-new_domain-in-Function-clause-changed t c = λ theta are memo.
+    let p = err_from_is_err_and c.from_residual.result c.from_residual.ensures.1 in
     let types = c.args.terms.now.types in
-    refused-type (type_change theta (type_at types c.in-Function.domain)) (type_change theta (type_at types c.args.ty)) c.in-Err.fault c.instantiate_type.new.terms.types (type_change theta)
+    rw (p.1, p.2)
+    (refused-type (type_change theta (type_at types c.in-Function.domain)) (type_change theta (type_at types c.args.ty)) c.in_err-new_domain-in-Function.field-0.0 c.instantiate_type.new.terms.types (type_change theta)
     c.instantiate_type.new.types.entries
-    (domain-smaller theta (type_at types c.args.ty) (type_at types c.in-Function.domain) (type_at types c.in-Function.codomain) c.in-Function.ensures.shape) (c.in-Err.ensures.changed theta are memo)
+    (domain-smaller theta (type_at types c.args.ty) (type_at types c.in-Function.domain) (type_at types c.in-Function.codomain) c.in-Function.ensures.shape) (c.in_err-new_domain-in-Function.ensures.changed theta are memo))
 
 pub instantiate_type-requires-in-Function : goal.instantiate_type-requires-in-Function
 instantiate_type-requires-in-Function t c =
@@ -42,36 +45,38 @@ instantiate_type-requires-in-Function t c =
       ),
     )
 
-pub returns-in-Err-instantiate_type-clause-changed : goal.returns-in-Err-instantiate_type-clause-changed
-returns-in-Err-instantiate_type-clause-changed t c = λ theta are memo.
+pub returns-in_err-new_codomain-in-Function-clause-changed : goal.returns-in_err-new_codomain-in-Function-clause-changed
+returns-in_err-new_codomain-in-Function-clause-changed t c = λ theta are memo.
+    let p = err_from_is_err_and c.from_residual-in_err-new_codomain-in-Function.result c.from_residual-in_err-new_codomain-in-Function.ensures.1 in
     let types = c.args.terms.now.types in
     let now = c.instantiate_type.new.terms.types in
     let longer = c.instantiate_type.ensures.grows.types in
     let before : c.in-Function.codomain < c.args.ty = c.in-Function.ensures.parts.1 in
     let known : c.args.ty < length types = c.requires.ty in
     let within : c.in-Function.codomain < length types = omega arith in
-    let first = c.in-Ok.ensures.changed theta are memo in
-    let second = c.in-Err-instantiate_type.ensures.changed theta (pairs-grown types now longer c.args.pairs.now theta are) first.memo in
-    refused-type (type_change theta (type_at now c.in-Function.codomain)) (type_change theta (type_at types c.args.ty)) c.in-Err-instantiate_type.fault
+    let first = c.in_ok-new_domain-in-Function.ensures.changed theta are memo in
+    let second = c.in_err-new_codomain-in-Function.ensures.changed theta (pairs-grown types now longer c.args.pairs.now theta are) first.memo in
+    rw (p.1, p.2)
+    (refused-type (type_change theta (type_at now c.in-Function.codomain)) (type_change theta (type_at types c.args.ty)) c.in_err-new_codomain-in-Function.field-0.0
     c.instantiate_type-in-Function.new.terms.types (type_change theta) c.instantiate_type-in-Function.new.types.entries
     (codomain-smaller theta (type_at types c.args.ty) (type_at types c.in-Function.domain) (type_at now c.in-Function.codomain)
-    (c.in-Function.ensures.shape ∙ ap (function_type (type_at types c.in-Function.domain)) (sym (type-grown types now c.in-Function.codomain longer within)))) second
+    (c.in-Function.ensures.shape ∙ ap (function_type (type_at types c.in-Function.domain)) (sym (type-grown types now c.in-Function.codomain longer within)))) second)
 
 pub function_type-requires-clause-domain : goal.function_type-requires-clause-domain
 function_type-requires-clause-domain t c =
     let work = c.requires.work in
-    type-within c.instantiate_type.new.terms.types c.instantiate_type-in-Function.new.terms.types c.in-Ok.new_domain c.instantiate_type-in-Function.ensures.grows.types
-    (is_within _ c.in-Ok.new_domain _ (c.in-Ok.ensures.changed work.theta work.are_pairs work.memo).number)
+    type-within c.instantiate_type.new.terms.types c.instantiate_type-in-Function.new.terms.types c.in_ok-new_domain-in-Function.new_domain c.instantiate_type-in-Function.ensures.grows.types
+    (is_within _ c.in_ok-new_domain-in-Function.new_domain _ (c.in_ok-new_domain-in-Function.ensures.changed work.theta work.are_pairs work.memo).number)
 
 pub function_type-requires-clause-codomain : goal.function_type-requires-clause-codomain
 function_type-requires-clause-codomain t c =
     let work = c.requires.work in
-    let first = c.in-Ok.ensures.changed work.theta work.are_pairs work.memo in
+    let first = c.in_ok-new_domain-in-Function.ensures.changed work.theta work.are_pairs work.memo in
     let pairs = pairs-grown c.args.terms.now.types c.instantiate_type.new.terms.types c.instantiate_type.ensures.grows.types c.args.pairs.now work.theta work.are_pairs in
-    is_within _ c.in-Ok-instantiate_type.new_codomain _ (c.in-Ok-instantiate_type.ensures.changed work.theta pairs first.memo).number
+    is_within _ c.in_ok-new_codomain-in-Function.new_codomain _ (c.in_ok-new_codomain-in-Function.ensures.changed work.theta pairs first.memo).number
 
-pub returns-in-Ok-function_type-clause-changed : goal.returns-in-Ok-function_type-clause-changed
-returns-in-Ok-function_type-clause-changed t c = λ theta are memo.
+pub returns-in-Ok-clause-changed : goal.returns-in-Ok-clause-changed
+returns-in-Ok-clause-changed t c = λ theta are memo.
     let t0 = c.args.terms.now.types in
     let t1 = c.instantiate_type.new.terms.types in
     let t2 = c.instantiate_type-in-Function.new.terms.types in
@@ -82,18 +87,18 @@ returns-in-Ok-function_type-clause-changed t c = λ theta are memo.
     let before : c.in-Function.codomain < c.args.ty = c.in-Function.ensures.parts.1 in
     let known : c.args.ty < length t0 = c.requires.ty in
     let within : c.in-Function.codomain < length t0 = omega arith in
-    let first = c.in-Ok.ensures.changed theta are memo in
-    let second = c.in-Ok-instantiate_type.ensures.changed theta (pairs-grown t0 t1 longer c.args.pairs.now theta are) first.memo in
+    let first = c.in_ok-new_domain-in-Function.ensures.changed theta are memo in
+    let second = c.in_ok-new_codomain-in-Function.ensures.changed theta (pairs-grown t0 t1 longer c.args.pairs.now theta are) first.memo in
     let codomain_same = type-grown t0 t1 c.in-Function.codomain longer within in
-    let parts = function-parts t1 t2 theta (type_at t0 c.args.ty) (type_at t0 c.in-Function.domain) (type_at t0 c.in-Function.codomain) c.in-Ok.new_domain
-    c.in-Ok-instantiate_type.new_codomain later c.in-Function.ensures.shape first.number
+    let parts = function-parts t1 t2 theta (type_at t0 c.args.ty) (type_at t0 c.in-Function.domain) (type_at t0 c.in-Function.codomain) c.in_ok-new_domain-in-Function.new_domain
+    c.in_ok-new_codomain-in-Function.new_codomain later c.in-Function.ensures.shape first.number
     (second.number ∙ ap (λ ty. Some (type_change theta ty)) codomain_same) in
-    answers-made t0 t2 t3 theta c.args.ty _ c.in-Ok-function_type.new c.remember_type.result c.instantiate_type-in-Function.new.types.entries c.remember_type.new.types.entries
-    (IsLonger-trans t0 t1 t3 longer (IsLonger-trans t1 t2 t3 later last)) last known parts c.in-Ok-function_type.ensures.number second.memo c.remember_type.ensures.new
+    answers-made t0 t2 t3 theta c.args.ty _ c.in-Ok.new c.remember_type.result c.instantiate_type-in-Function.new.types.entries c.remember_type.new.types.entries
+    (IsLonger-trans t0 t1 t3 longer (IsLonger-trans t1 t2 t3 later last)) last known parts c.in-Ok.ensures.number second.memo c.remember_type.ensures.new
     c.remember_type.ensures.refused c.remember_type.ensures.added
 
-pub returns-in-Err-function_type-clause-changed : goal.returns-in-Err-function_type-clause-changed
-returns-in-Err-function_type-clause-changed t c = λ theta are memo.
+pub returns-in-Err-clause-changed : goal.returns-in-Err-clause-changed
+returns-in-Err-clause-changed t c = λ theta are memo.
     let t0 = c.args.terms.now.types in
     let t1 = c.instantiate_type.new.terms.types in
     let t2 = c.instantiate_type-in-Function.new.terms.types in
@@ -104,10 +109,10 @@ returns-in-Err-function_type-clause-changed t c = λ theta are memo.
     let before : c.in-Function.codomain < c.args.ty = c.in-Function.ensures.parts.1 in
     let known : c.args.ty < length t0 = c.requires.ty in
     let within : c.in-Function.codomain < length t0 = omega arith in
-    let first = c.in-Ok.ensures.changed theta are memo in
-    let second = c.in-Ok-instantiate_type.ensures.changed theta (pairs-grown t0 t1 longer c.args.pairs.now theta are) first.memo in
+    let first = c.in_ok-new_domain-in-Function.ensures.changed theta are memo in
+    let second = c.in_ok-new_codomain-in-Function.ensures.changed theta (pairs-grown t0 t1 longer c.args.pairs.now theta are) first.memo in
     let codomain_same = type-grown t0 t1 c.in-Function.codomain longer within in
-    let parts = function-parts t1 t2 theta (type_at t0 c.args.ty) (type_at t0 c.in-Function.domain) (type_at t0 c.in-Function.codomain) c.in-Ok.new_domain
-    c.in-Ok-instantiate_type.new_codomain later c.in-Function.ensures.shape first.number
+    let parts = function-parts t1 t2 theta (type_at t0 c.args.ty) (type_at t0 c.in-Function.domain) (type_at t0 c.in-Function.codomain) c.in_ok-new_domain-in-Function.new_domain
+    c.in_ok-new_codomain-in-Function.new_codomain later c.in-Function.ensures.shape first.number
     (second.number ∙ ap (λ ty. Some (type_change theta ty)) codomain_same) in
-    answers-refused t2 t3 theta (type_at t0 c.args.ty) _ c.in-Err-function_type.fault c.instantiate_type-in-Function.new.types.entries last parts c.in-Err-function_type.ensures.refused second.memo
+    answers-refused t2 t3 theta (type_at t0 c.args.ty) _ c.in-Err.fault c.instantiate_type-in-Function.new.types.entries last parts c.in-Err.ensures.refused second.memo
