@@ -153,12 +153,9 @@ fn number_under(
         WrittenShape::Variable(number) => variable_under(terms, &*binders, number),
         WrittenShape::Constant(number) => Ok(number),
         WrittenShape::Application(function, argument) => {
-            let new_function = match number_under(
+            let new_function = number_under(
                 alloc, terms, made, known, written, &*binders, function,
-            ) {
-                Ok(new_function) => new_function,
-                Err(fault) => return Err(fault),
-            };
+            )?;
             match number_under(alloc, terms, made, known, written, &*binders, argument) {
                 Ok(new_argument) => {
                     keep_application(

@@ -140,10 +140,7 @@ pub fn write_abstraction(
         (shape.Abstraction binder line) result terms.old terms.new }
 {
     let domain = variable_type(terms, binder);
-    let ty = match terms.function_type(domain, body.ty) {
-        Ok(ty) => ty,
-        Err(fault) => return Err(fault),
-    };
+    let ty = terms.function_type(domain, body.ty)?;
     if body.height == TERM_HEIGHT_LIMIT {
         return Err(Fault::TooLarge);
     }

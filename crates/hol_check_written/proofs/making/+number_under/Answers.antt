@@ -1,4 +1,5 @@
 use Rattle.std.proofs.Common.{◌<◌, length, refl, subst, arith}
+use Rattle.std.proofs.lemmas.Result.{err_from_is_err_and}
 use Rattle.std.proofs.lemmas.Option.{slice_get-get_or}
 use Rattle.hol_check_terms.proofs.TableLemmas.{is_within}
 use Rattle.hol_check_terms.proofs.GrowthLemmas.{within-grown, IsGrown-trans}
@@ -73,14 +74,14 @@ number_under-number_under-requires-in-Application t c =
 
 pub number_under-keep_application-requires-clause-function : goal.number_under-keep_application-requires-clause-function
 number_under-keep_application-requires-clause-function t c =
-    within-grown c.number_under.new.terms c.number_under-in-Application.new.terms c.in-Ok.new_function c.number_under-in-Application.ensures.grows
-    (is_within c.number_under.new.terms.terms c.in-Ok.new_function _ c.in-Ok.ensures.number)
+    within-grown c.number_under.new.terms c.number_under-in-Application.new.terms c.in_ok-new_function-in-Application.new_function c.number_under-in-Application.ensures.grows
+    (is_within c.number_under.new.terms.terms c.in_ok-new_function-in-Application.new_function _ c.in_ok-new_function-in-Application.ensures.number)
 
 pub number_under-keep_application-requires-clause-argument : goal.number_under-keep_application-requires-clause-argument
-number_under-keep_application-requires-clause-argument t c = is_within c.number_under-in-Application.new.terms.terms c.in-Ok-number_under.new_argument _ c.in-Ok-number_under.ensures.number
+number_under-keep_application-requires-clause-argument t c = is_within c.number_under-in-Application.new.terms.terms c.in-Ok.new_argument _ c.in-Ok.ensures.number
 
-pub number_under-returns-in-Ok-number_under : goal.number_under-returns-in-Ok-number_under
-number_under-returns-in-Ok-number_under t c =
+pub number_under-returns-in-Ok : goal.number_under-returns-in-Ok
+number_under-returns-in-Ok t c =
     let t0 = c.args.terms.now in
     let t1 = c.number_under.new.terms in
     let t2 = c.number_under-in-Application.new.terms in
@@ -89,31 +90,44 @@ number_under-returns-in-Ok-number_under t c =
     kept-numbers t0 t2 c.keep_application.new.terms written (binders_in t0.terms binders) c.args.line c.args.made.now.entries c.number_under-in-Application.new.made.entries
     c.keep_application.new.made.entries
     c.number_under-in-Application.new.known.entries c.keep_application.new.known.entries c.is_apart-is_apart.result _ c.keep_application.result
-    c.requires.work.written_are c.requires.line (IsGrown-trans t0 t1 t2 c.in-Ok.ensures.grows c.in-Ok-number_under.ensures.grows) c.in-Ok-number_under.ensures.made_are
-    (subst (λ around. AreNumbered t2 written around c.number_under-in-Application.new.known.entries) (binders-still t0 t1 c.in-Ok.ensures.grows binders c.requires.work.binders_are)
-    c.in-Ok-number_under.ensures.known_are)
-    (Stays-trans c.args.made.now.entries c.number_under.new.made.entries c.number_under-in-Application.new.made.entries c.in-Ok.ensures.stays c.in-Ok-number_under.ensures.stays)
+    c.requires.work.written_are c.requires.line (IsGrown-trans t0 t1 t2 c.in_ok-new_function-in-Application.ensures.grows c.in-Ok.ensures.grows) c.in-Ok.ensures.made_are
+    (subst (λ around. AreNumbered t2 written around c.number_under-in-Application.new.known.entries) (binders-still t0 t1 c.in_ok-new_function-in-Application.ensures.grows binders c.requires.work.binders_are)
+    c.in-Ok.ensures.known_are)
+    (Stays-trans c.args.made.now.entries c.number_under.new.made.entries c.number_under-in-Application.new.made.entries c.in_ok-new_function-in-Application.ensures.stays c.in-Ok.ensures.stays)
     (application-made t0 t1 written binders c.args.line c.args.made.now.entries c.args.known.now.entries c.requires.work _ (slice_get-get_or written c.args.line _ c.requires.line)
-    c.in-Ok.ensures.grows t2
-    c.in-Application.function c.in-Application.argument c.in-Ok.new_function c.in-Ok-number_under.new_argument c.in-Application.is c.in-Ok-number_under.ensures.grows c.in-Ok.ensures.number
-    c.in-Ok-number_under.ensures.number)
+    c.in_ok-new_function-in-Application.ensures.grows t2
+    c.in-Application.function c.in-Application.argument c.in_ok-new_function-in-Application.new_function c.in-Ok.new_argument c.in-Application.is c.in-Ok.ensures.grows c.in_ok-new_function-in-Application.ensures.number
+    c.in-Ok.ensures.number)
     (λ known. c.is_apart-is_apart.ensures known _ (c.requires.work.written_are c.args.line _ (slice_get-get_or written c.args.line _ c.requires.line)).writes.counted)
     c.keep_application.ensures
 
-pub number_under-returns-in-Err-number_under : goal.number_under-returns-in-Err-number_under
-number_under-returns-in-Err-number_under t c =
+pub number_under-returns-in-Err : goal.number_under-returns-in-Err
+number_under-returns-in-Err t c =
     let t0 = c.args.terms.now in
     let t1 = c.number_under.new.terms in
     let t2 = c.number_under-in-Application.new.terms in
     record {
       number = tt;
-      refused = c.in-Err-number_under.ensures.refused;
-      grows = IsGrown-trans t0 t1 t2 c.in-Ok.ensures.grows c.in-Err-number_under.ensures.grows;
-      made_are = c.in-Err-number_under.ensures.made_are;
+      refused = c.in-Err.ensures.refused;
+      grows = IsGrown-trans t0 t1 t2 c.in_ok-new_function-in-Application.ensures.grows c.in-Err.ensures.grows;
+      made_are = c.in-Err.ensures.made_are;
       known_are = subst (λ around. AreNumbered t2 c.args.written.now around c.number_under-in-Application.new.known.entries)
-          (binders-still t0 t1 c.in-Ok.ensures.grows c.args.binders.now c.requires.work.binders_are) c.in-Err-number_under.ensures.known_are;
-      stays = Stays-trans c.args.made.now.entries c.number_under.new.made.entries c.number_under-in-Application.new.made.entries c.in-Ok.ensures.stays c.in-Err-number_under.ensures.stays;
+          (binders-still t0 t1 c.in_ok-new_function-in-Application.ensures.grows c.args.binders.now c.requires.work.binders_are) c.in-Err.ensures.known_are;
+      stays = Stays-trans c.args.made.now.entries c.number_under.new.made.entries c.number_under-in-Application.new.made.entries c.in_ok-new_function-in-Application.ensures.stays c.in-Err.ensures.stays;
     }
+
+pub number_under-returns-in_err-new_function-in-Application : goal.number_under-returns-in_err-new_function-in-Application
+number_under-returns-in_err-new_function-in-Application t c =
+    let p = err_from_is_err_and c.from_residual.result c.from_residual.ensures.1 in
+    rw (p.1, p.2)
+    (record {
+      number = tt;
+      refused = c.in_err-new_function-in-Application.ensures.refused;
+      grows = c.in_err-new_function-in-Application.ensures.grows;
+      made_are = c.in_err-new_function-in-Application.ensures.made_are;
+      known_are = c.in_err-new_function-in-Application.ensures.known_are;
+      stays = c.in_err-new_function-in-Application.ensures.stays;
+    })
 
 -- abstractions
 
