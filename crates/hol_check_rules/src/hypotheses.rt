@@ -70,10 +70,7 @@ pub fn set_of(alloc: Global, terms: &Terms, list: &[usize]) -> Result<Vec<usize>
         return copied(alloc, list);
     }
     let (left, right) = list.split_at(list.len() / 2);
-    let left = match set_of(alloc, terms, left) {
-        Ok(left) => left,
-        Err(fault) => return Err(fault),
-    };
+    let left = set_of(alloc, terms, left)?;
     match set_of(alloc, terms, right) {
         Ok(right) => union(alloc, terms, &left, &right),
         Err(fault) => Err(fault),
@@ -127,10 +124,9 @@ pub(crate) fn is_free_in_any(
     ensures refused { IfErr result (λ fault. fault ≡ Memory) }
 {
     for number in list {
-        match occurs_free(alloc, terms, variable, *number) {
-            Ok(true) => return Ok(true),
-            Ok(false) => {}
-            Err(fault) => return Err(fault),
+        let found = occurs_free(alloc, terms, variable, *number)?;
+        if found {
+            return Ok(true);
         }
     }
     Ok(false)

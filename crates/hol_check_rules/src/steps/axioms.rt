@@ -23,10 +23,7 @@ pub fn eta(alloc: Global, terms: &mut Terms) -> Result<Result<Theorem, Cause>, F
     ensures taken { Takes spec.eta_step result terms.new.terms }
     ensures grows { IsGrown terms.old terms.new }
 {
-    let hypotheses = match set_of(alloc, terms, &[]) {
-        Ok(hypotheses) => hypotheses,
-        Err(fault) => return Err(fault),
-    };
+    let hypotheses = set_of(alloc, terms, &[])?;
     conclude(hypotheses, eta_conclusion(alloc, terms))
 }
 
@@ -50,10 +47,7 @@ fn eta_abstraction(alloc: Global, terms: &mut Terms) -> Result<usize, Fault>
     ensures named { IsNamed (lam theory.type_a (app derivable.eta_variable (bound 0))) result terms.new.terms }
     ensures grows { IsGrown terms.old terms.new }
 {
-    let body = match eta_application(alloc, terms) {
-        Ok(body) => body,
-        Err(fault) => return Err(fault),
-    };
+    let body = eta_application(alloc, terms)?;
     match terms.type_variable(alloc, b"A") {
         Ok(ty) => match terms.abstraction(ty, body) {
             Ok(number) => Ok(number),
@@ -68,10 +62,7 @@ fn eta_application(alloc: Global, terms: &mut Terms) -> Result<usize, Fault>
     ensures named { IsNamed (app derivable.eta_variable (bound 0)) result terms.new.terms }
     ensures grows { IsGrown terms.old terms.new }
 {
-    let function = match eta_variable(alloc, terms) {
-        Ok(function) => function,
-        Err(fault) => return Err(fault),
-    };
+    let function = eta_variable(alloc, terms)?;
     match terms.bound(0) {
         Ok(argument) => match terms.application(function, argument) {
             Ok(number) => Ok(number),
@@ -97,10 +88,7 @@ fn eta_type(alloc: Global, terms: &mut Terms) -> Result<usize, Fault>
     ensures named { IsNamedType (types.function_type theory.type_a theory.type_b) result terms.new.types }
     ensures grows { IsGrown terms.old terms.new }
 {
-    let domain = match terms.type_variable(alloc, b"A") {
-        Ok(domain) => domain,
-        Err(fault) => return Err(fault),
-    };
+    let domain = terms.type_variable(alloc, b"A")?;
     match terms.type_variable(alloc, b"B") {
         Ok(codomain) => match terms.function_type(domain, codomain) {
             Ok(number) => Ok(number),
@@ -115,14 +103,8 @@ pub fn select(alloc: Global, terms: &mut Terms) -> Result<Result<Theorem, Cause>
     ensures taken { Takes spec.select_step result terms.new.terms }
     ensures grows { IsGrown terms.old terms.new }
 {
-    let hypothesis = match select_hypothesis(alloc, terms) {
-        Ok(hypothesis) => hypothesis,
-        Err(fault) => return Err(fault),
-    };
-    let hypotheses = match set_of(alloc, terms, &[hypothesis]) {
-        Ok(hypotheses) => hypotheses,
-        Err(fault) => return Err(fault),
-    };
+    let hypothesis = select_hypothesis(alloc, terms)?;
+    let hypotheses = set_of(alloc, terms, &[hypothesis])?;
     conclude(hypotheses, select_conclusion(alloc, terms))
 }
 
@@ -132,14 +114,8 @@ fn select_hypothesis(alloc: Global, terms: &mut Terms) -> Result<usize, Fault>
     ensures fitting { IfOk result (IsFitting terms.new.terms) }
     ensures grows { IsGrown terms.old terms.new }
 {
-    let predicate = match select_predicate(alloc, terms) {
-        Ok(predicate) => predicate,
-        Err(fault) => return Err(fault),
-    };
-    let argument = match select_variable(alloc, terms) {
-        Ok(argument) => argument,
-        Err(fault) => return Err(fault),
-    };
+    let predicate = select_predicate(alloc, terms)?;
+    let argument = select_variable(alloc, terms)?;
     match terms.application(predicate, argument) {
         Ok(number) => Ok(number),
         Err(_fault) => Err(Fault::Memory),
@@ -170,10 +146,7 @@ fn choice_application(alloc: Global, terms: &mut Terms) -> Result<usize, Fault>
     ensures named { IsNamed (app (const theory.choice_name (theory.choice_type theory.type_a)) derivable.select_predicate) result terms.new.terms }
     ensures grows { IsGrown terms.old terms.new }
 {
-    let choice = match choice(alloc, terms) {
-        Ok(choice) => choice,
-        Err(fault) => return Err(fault),
-    };
+    let choice = choice(alloc, terms)?;
     match select_predicate(alloc, terms) {
         Ok(predicate) => match terms.application(choice, predicate) {
             Ok(number) => Ok(number),
@@ -188,14 +161,8 @@ fn choice(alloc: Global, terms: &mut Terms) -> Result<usize, Fault>
     ensures named { IsNamed (const theory.choice_name (theory.choice_type theory.type_a)) result terms.new.terms }
     ensures grows { IsGrown terms.old terms.new }
 {
-    let predicates = match predicate_type(alloc, terms) {
-        Ok(predicates) => predicates,
-        Err(fault) => return Err(fault),
-    };
-    let argument = match terms.type_variable(alloc, b"A") {
-        Ok(argument) => argument,
-        Err(fault) => return Err(fault),
-    };
+    let predicates = predicate_type(alloc, terms)?;
+    let argument = terms.type_variable(alloc, b"A")?;
     match terms.function_type(predicates, argument) {
         Ok(ty) => constant(alloc, terms, b"@", ty),
         Err(_fault) => Err(Fault::Memory),
@@ -229,10 +196,7 @@ fn predicate_type(alloc: Global, terms: &mut Terms) -> Result<usize, Fault>
     ensures named { IsNamedType (types.function_type theory.type_a types.bool_type) result terms.new.types }
     ensures grows { IsGrown terms.old terms.new }
 {
-    let domain = match terms.type_variable(alloc, b"A") {
-        Ok(domain) => domain,
-        Err(fault) => return Err(fault),
-    };
+    let domain = terms.type_variable(alloc, b"A")?;
     match terms.boolean() {
         Ok(codomain) => match terms.function_type(domain, codomain) {
             Ok(number) => Ok(number),

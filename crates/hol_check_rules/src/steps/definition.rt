@@ -38,15 +38,11 @@ pub fn define(
         Ok(ty) => ty,
         Err(_fault) => return Err(Fault::Memory),
     };
-    match is_definable(alloc, terms, ty, body) {
-        Ok(true) => {}
-        Ok(false) => return Ok(Err(Cause::Rule)),
-        Err(fault) => return Err(fault),
+    let definable = is_definable(alloc, terms, ty, body)?;
+    if !definable {
+        return Ok(Err(Cause::Rule));
     }
-    let constant = match terms.constant(name, ty) {
-        Ok(constant) => constant,
-        Err(fault) => return Err(fault),
-    };
+    let constant = terms.constant(name, ty)?;
     match equation_of(alloc, terms, constant, body) {
         Ok(conclusion) => Ok(Ok(Definition { ty, conclusion })),
         Err(Fault::TooLarge) => Ok(Err(Cause::Large)),

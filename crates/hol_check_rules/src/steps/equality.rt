@@ -25,10 +25,7 @@ pub fn refl(alloc: Global, terms: &mut Terms, term: usize) -> Result<Result<Theo
     ensures taken { Takes (spec.refl_step (term_at terms.old.terms term)) result terms.new.terms }
     ensures grows { IsGrown terms.old terms.new }
 {
-    let hypotheses = match set_of(alloc, terms, &[]) {
-        Ok(hypotheses) => hypotheses,
-        Err(fault) => return Err(fault),
-    };
+    let hypotheses = set_of(alloc, terms, &[])?;
     conclude(hypotheses, equation_of(alloc, terms, term, term))
 }
 
@@ -55,10 +52,7 @@ pub fn trans(
     ) {
         return Ok(Err(Cause::Rule));
     }
-    let hypotheses = match union(alloc, terms, &first.hypotheses, &second.hypotheses) {
-        Ok(hypotheses) => hypotheses,
-        Err(fault) => return Err(fault),
-    };
+    let hypotheses = union(alloc, terms, &first.hypotheses, &second.hypotheses)?;
     conclude(hypotheses, equation_of(alloc, terms, left, right))
 }
 
@@ -90,14 +84,10 @@ pub fn mk_comb(
     let argument = left_side(terms, second.conclusion);
     let other_function = right_side(terms, first.conclusion);
     let other_argument = right_side(terms, second.conclusion);
-    let hypotheses = match union(alloc, terms, &first.hypotheses, &second.hypotheses) {
-        Ok(hypotheses) => hypotheses,
-        Err(fault) => return Err(fault),
-    };
-    match sides_fit(terms, first.conclusion, second.conclusion) {
-        Ok(true) => {}
-        Ok(false) => return Ok(Err(Cause::Kind)),
-        Err(fault) => return Err(fault),
+    let hypotheses = union(alloc, terms, &first.hypotheses, &second.hypotheses)?;
+    let fit = sides_fit(terms, first.conclusion, second.conclusion)?;
+    if !fit {
+        return Ok(Err(Cause::Kind));
     }
     let left = (function, argument);
     let right = (other_function, other_argument);
@@ -125,17 +115,13 @@ pub fn abs(
     if !is_equation(terms, premise.conclusion) {
         return Ok(Err(Cause::Rule));
     }
-    match is_free_in_any(alloc, terms, variable, &premise.hypotheses) {
-        Ok(false) => {}
-        Ok(true) => return Ok(Err(Cause::Rule)),
-        Err(fault) => return Err(fault),
+    let found = is_free_in_any(alloc, terms, variable, &premise.hypotheses)?;
+    if found {
+        return Ok(Err(Cause::Rule));
     }
     let left = left_side(terms, premise.conclusion);
     let right = right_side(terms, premise.conclusion);
-    let hypotheses = match set_of(alloc, terms, &premise.hypotheses) {
-        Ok(hypotheses) => hypotheses,
-        Err(fault) => return Err(fault),
-    };
+    let hypotheses = set_of(alloc, terms, &premise.hypotheses)?;
     conclude(
         hypotheses,
         equation_of_abstractions(alloc, terms, variable, left, right),
@@ -148,14 +134,10 @@ pub fn beta(alloc: Global, terms: &mut Terms, term: usize) -> Result<Result<Theo
     ensures taken { Takes (spec.beta_step (term_at terms.old.terms term)) result terms.new.terms }
     ensures grows { IsGrown terms.old terms.new }
 {
-    match is_trivial_redex(alloc, terms, term) {
-        Ok(true) => {}
-        Ok(false) => return Ok(Err(Cause::Rule)),
-        Err(fault) => return Err(fault),
+    let trivial = is_trivial_redex(alloc, terms, term)?;
+    if !trivial {
+        return Ok(Err(Cause::Rule));
     }
-    let hypotheses = match set_of(alloc, terms, &[]) {
-        Ok(hypotheses) => hypotheses,
-        Err(fault) => return Err(fault),
-    };
+    let hypotheses = set_of(alloc, terms, &[])?;
     conclude(hypotheses, equation_of_redex(alloc, terms, term))
 }

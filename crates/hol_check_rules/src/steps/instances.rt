@@ -78,10 +78,9 @@ fn are_replacements(
     ensures grows { IsGrown terms.old terms.new }
 {
     for pair in pairs {
-        match is_replacement(alloc, terms, pair.0, pair.1) {
-            Ok(true) => {}
-            Ok(false) => return Ok(false),
-            Err(fault) => return Err(fault),
+        let replaces = is_replacement(alloc, terms, pair.0, pair.1)?;
+        if !replaces {
+            return Ok(false);
         }
     }
     Ok(true)
@@ -144,10 +143,7 @@ fn changed_theorem(
         Err(Fault::TooLarge) => return Ok(Err(Cause::Large)),
         Err(_fault) => return Err(Fault::Memory),
     };
-    let hypotheses = match set_of(alloc, terms, &changed) {
-        Ok(hypotheses) => hypotheses,
-        Err(fault) => return Err(fault),
-    };
+    let hypotheses = set_of(alloc, terms, &changed)?;
     conclude(
         hypotheses,
         change_within(alloc, terms, change, premise.conclusion),
@@ -168,10 +164,7 @@ fn change_each(
 {
     let mut news = Vec::new(alloc);
     for number in list {
-        let new = match change_within(alloc, terms, change, *number) {
-            Ok(new) => new,
-            Err(fault) => return Err(fault),
-        };
+        let new = change_within(alloc, terms, change, *number)?;
         news.push(new)?;
     }
     Ok(news)

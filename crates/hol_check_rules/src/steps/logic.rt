@@ -25,10 +25,7 @@ pub fn assume(
     ensures taken { Takes (spec.assume_step (term_at terms.old.terms term)) result terms.new.terms }
     ensures grows { IsGrown terms.old terms.new }
 {
-    let hypotheses = match set_of(alloc, terms, &[term]) {
-        Ok(hypotheses) => hypotheses,
-        Err(fault) => return Err(fault),
-    };
+    let hypotheses = set_of(alloc, terms, &[term])?;
     match is_formula(alloc, terms, term) {
         Ok(true) => conclude(hypotheses, Ok(term)),
         Ok(false) => Ok(Err(Cause::Kind)),
@@ -55,10 +52,7 @@ pub fn eq_mp(
         return Ok(Err(Cause::Rule));
     }
     let right = right_side(terms, first.conclusion);
-    let hypotheses = match union(alloc, terms, &first.hypotheses, &second.hypotheses) {
-        Ok(hypotheses) => hypotheses,
-        Err(fault) => return Err(fault),
-    };
+    let hypotheses = union(alloc, terms, &first.hypotheses, &second.hypotheses)?;
     conclude(hypotheses, within_limits(alloc, terms, right))
 }
 
@@ -74,18 +68,9 @@ pub fn deduct(
     ensures taken { Takes (spec.deduct_step (sequent_in terms.old.terms first.now) (sequent_in terms.old.terms second.now)) result terms.new.terms }
     ensures grows { IsGrown terms.old terms.new }
 {
-    let first_left = match without(alloc, terms, second.conclusion, &first.hypotheses) {
-        Ok(first_left) => first_left,
-        Err(fault) => return Err(fault),
-    };
-    let second_left = match without(alloc, terms, first.conclusion, &second.hypotheses) {
-        Ok(second_left) => second_left,
-        Err(fault) => return Err(fault),
-    };
-    let hypotheses = match union(alloc, terms, &first_left, &second_left) {
-        Ok(hypotheses) => hypotheses,
-        Err(fault) => return Err(fault),
-    };
+    let first_left = without(alloc, terms, second.conclusion, &first.hypotheses)?;
+    let second_left = without(alloc, terms, first.conclusion, &second.hypotheses)?;
+    let hypotheses = union(alloc, terms, &first_left, &second_left)?;
     conclude(
         hypotheses,
         equation_of(alloc, terms, first.conclusion, second.conclusion),

@@ -3,13 +3,13 @@ use Rattle.hol_check_rules.proofs.OrderLemmas.{set_of-made, ordered-by_set}
 use Rattle.hol_check_rules.proofs.hypotheses.«+set_of».Goals as goal
 
 pub union-requires-clause-first_ordered : goal.union-requires-clause-first_ordered
-union-requires-clause-first_ordered t c = rw c.deref.ensures.value (ordered-by_set c.args.terms.now.terms c.in-Ok.left.items _ c.in-Ok.ensures.all)
+union-requires-clause-first_ordered t c = rw c.deref.ensures.value (ordered-by_set c.args.terms.now.terms c.in_ok-left.left.items _ c.in_ok-left.ensures.all)
 
 pub union-requires-clause-second_ordered : goal.union-requires-clause-second_ordered
-union-requires-clause-second_ordered t c = rw c.deref-in-Ok-set_of.ensures.value (ordered-by_set c.args.terms.now.terms c.in-Ok-set_of.right.items _ c.in-Ok-set_of.ensures.all)
+union-requires-clause-second_ordered t c = rw c.deref-in-Ok.ensures.value (ordered-by_set c.args.terms.now.terms c.in-Ok.right.items _ c.in-Ok.ensures.all)
 
-pub returns-in-Ok-set_of-clause-all : goal.returns-in-Ok-set_of-clause-all
-returns-in-Ok-set_of-clause-all t c =
-    let whole = rw (c.deref.ensures.value, c.deref-in-Ok-set_of.ensures.value) at c.union.ensures.all in
-    set_of-made c.args.terms.now.terms _ _ c.in-Ok.left.items c.in-Ok-set_of.right.items c.args.list.now c.union.result c.in-Ok.ensures.all c.in-Ok-set_of.ensures.all whole
+pub returns-in-Ok-clause-all : goal.returns-in-Ok-clause-all
+returns-in-Ok-clause-all t c =
+    let whole = rw (c.deref.ensures.value, c.deref-in-Ok.ensures.value) at c.union.ensures.all in
+    set_of-made c.args.terms.now.terms _ _ c.in_ok-left.left.items c.in-Ok.right.items c.args.list.now c.union.result c.in_ok-left.ensures.all c.in-Ok.ensures.all whole
     (sym c.split_at.ensures.by_index.0)

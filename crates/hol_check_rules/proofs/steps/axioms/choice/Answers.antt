@@ -3,10 +3,10 @@ use Rattle.hol_check_rules.proofs.AxiomLemmas.{function-named}
 use Rattle.hol_check_rules.proofs.steps.axioms.choice.Goals as goal
 use Rattle.hol_check_terms.proofs.GrowthLemmas.{type-there}
 
-pub returns-in-Ok-function_type-clause-named : goal.returns-in-Ok-function_type-clause-named
-returns-in-Ok-function_type-clause-named c =
-    let made = function-named c.predicate_type.new.terms c.type_variable.new.self c.function_type.new.self.types c.in-Ok.predicates c.in-Ok-type_variable.argument c.in-Ok-function_type.ty _ _
-    c.in-Ok.ensures.named.number c.type_variable.ensures.grows c.in-Ok-type_variable.ensures.number c.in-Ok-function_type.ensures.number in
-    let is = type-there c.function_type.new.self.types c.in-Ok-function_type.ty (choice_type type_a) made in
+pub returns-in-Ok-clause-named : goal.returns-in-Ok-clause-named
+returns-in-Ok-clause-named c =
+    let made = function-named c.predicate_type.new.terms c.type_variable.new.self c.function_type.new.self.types c.in_ok-predicates.predicates c.in_ok-argument.argument c.in-Ok.ty _ _
+    c.in_ok-predicates.ensures.named.number c.type_variable.ensures.grows c.in_ok-argument.ensures.number c.in-Ok.ensures.number in
+    let is = type-there c.function_type.new.self.types c.in-Ok.ty (choice_type type_a) made in
     let number = rw is at c.constant.ensures.number in
     record { number = number; refused = c.constant.ensures.refused }

@@ -3,8 +3,8 @@ use Rattle.hol_check_rules.proofs.steps.axioms.choice_application.Goals as goal
 
 pub returns-in-Ok-application-clause-named : goal.returns-in-Ok-application-clause-named
 returns-in-Ok-application-clause-named c = record {
-  number = application-named c.choice.new.terms c.select_predicate.new.terms c.application.new.self.terms c.in-Ok.choice c.in-Ok-select_predicate.predicate c.in-Ok-application.number _ _
-      c.in-Ok.ensures.named.number c.select_predicate.ensures.grows c.in-Ok-select_predicate.ensures.named.number c.in-Ok-application.ensures.number;
+  number = application-named c.choice.new.terms c.select_predicate.new.terms c.application.new.self.terms c.in_ok-choice.choice c.in-Ok.predicate c.in-Ok-application.number _ _
+      c.in_ok-choice.ensures.named.number c.select_predicate.ensures.grows c.in-Ok.ensures.named.number c.in-Ok-application.ensures.number;
   refused = tt;
 }
 

@@ -3,8 +3,8 @@ use Rattle.hol_check_rules.proofs.steps.axioms.eta_abstraction.Goals as goal
 
 pub returns-in-Ok-abstraction-clause-named : goal.returns-in-Ok-abstraction-clause-named
 returns-in-Ok-abstraction-clause-named c = record {
-  number = abstraction-named c.eta_application.new.terms c.type_variable.new.self c.abstraction.new.self.terms c.in-Ok.body c.in-Ok-type_variable.ty c.in-Ok-abstraction.number _ _
-      c.in-Ok.ensures.named.number c.type_variable.ensures.grows c.in-Ok-type_variable.ensures.number c.in-Ok-abstraction.ensures.number;
+  number = abstraction-named c.eta_application.new.terms c.type_variable.new.self c.abstraction.new.self.terms c.in_ok-body.body c.in-Ok.ty c.in-Ok-abstraction.number _ _
+      c.in_ok-body.ensures.named.number c.type_variable.ensures.grows c.in-Ok.ensures.number c.in-Ok-abstraction.ensures.number;
   refused = tt;
 }
 

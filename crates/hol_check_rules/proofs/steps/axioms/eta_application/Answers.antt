@@ -3,8 +3,8 @@ use Rattle.hol_check_rules.proofs.steps.axioms.eta_application.Goals as goal
 
 pub returns-in-Ok-application-clause-named : goal.returns-in-Ok-application-clause-named
 returns-in-Ok-application-clause-named c = record {
-  number = application-named c.eta_variable.new.terms c.bound.new.self c.application.new.self.terms c.in-Ok.function c.in-Ok-bound.argument c.in-Ok-application.number _ _
-      c.in-Ok.ensures.named.number c.bound.ensures.grows c.in-Ok-bound.ensures.number c.in-Ok-application.ensures.number;
+  number = application-named c.eta_variable.new.terms c.bound.new.self c.application.new.self.terms c.in_ok-function.function c.in-Ok.argument c.in-Ok-application.number _ _
+      c.in_ok-function.ensures.named.number c.bound.ensures.grows c.in-Ok.ensures.number c.in-Ok-application.ensures.number;
   refused = tt;
 }
 

@@ -14,10 +14,10 @@ returns-in-Ok-equation_of-clause-defined c =
     let t3 = c.constant.new.self in
     let first = c.type_of.ensures.grows in
     let second = c.constant.ensures.grows in
-    let is = definition-is t0 t1 t3 first second c.args.name c.in-Ok.ty c.in-Ok-constant.constant c.args.body c.requires.name c.requires.body c.in-Ok.ensures.number c.in-Ok-constant.ensures.number in
-    let definable = sym (definable-is t0 t1 t3 first second c.args.name c.in-Ok.ty c.in-Ok-constant.constant c.args.body c.requires.name c.requires.body c.in-Ok.ensures.number
-    c.in-Ok-constant.ensures.number)
-    ∙ (sym c.in-Ok-true.ensures.definable ∙ c.in-Ok-true.field-0-test) in
+    let is = definition-is t0 t1 t3 first second c.args.name c.in-Ok.ty c.in_ok-constant.constant c.args.body c.requires.name c.requires.body c.in-Ok.ensures.number c.in_ok-constant.ensures.number in
+    let definable = sym (definable-is t0 t1 t3 first second c.args.name c.in-Ok.ty c.in_ok-constant.constant c.args.body c.requires.name c.requires.body c.in-Ok.ensures.number
+    c.in_ok-constant.ensures.number)
+    ∙ (sym c.in_ok-definable.ensures.definable ∙ c.if-not-definable.false) in
     let t4 = c.equation_of.new.terms in (
       definition-fits (name_at t0.names c.args.name) (term_at t0.terms c.args.body) definable (sym (ap nameless_within_limits is) ∙ c.in-Ok-equation_of.ensures.formed.fits),
       type-place t1.types t4.types c.in-Ok.ty _ (IsGrown-trans t1 t3 t4 second c.equation_of.ensures.grows).types c.in-Ok.ensures.number,
@@ -35,9 +35,9 @@ returns-in-Err-TooLarge-clause-defined c =
     let t3 = c.constant.new.self in
     let first = c.type_of.ensures.grows in
     let second = c.constant.ensures.grows in
-    let is = definition-is t0 t1 t3 first second c.args.name c.in-Ok.ty c.in-Ok-constant.constant c.args.body c.requires.name c.requires.body c.in-Ok.ensures.number c.in-Ok-constant.ensures.number in
-    let definable = sym (definable-is t0 t1 t3 first second c.args.name c.in-Ok.ty c.in-Ok-constant.constant c.args.body c.requires.name c.requires.body c.in-Ok.ensures.number
-    c.in-Ok-constant.ensures.number)
-    ∙ (sym c.in-Ok-true.ensures.definable ∙ c.in-Ok-true.field-0-test) in
+    let is = definition-is t0 t1 t3 first second c.args.name c.in-Ok.ty c.in_ok-constant.constant c.args.body c.requires.name c.requires.body c.in-Ok.ensures.number c.in_ok-constant.ensures.number in
+    let definable = sym (definable-is t0 t1 t3 first second c.args.name c.in-Ok.ty c.in_ok-constant.constant c.args.body c.requires.name c.requires.body c.in-Ok.ensures.number
+    c.in_ok-constant.ensures.number)
+    ∙ (sym c.in_ok-definable.ensures.definable ∙ c.if-not-definable.false) in
     let formed = rw c.in-Err-TooLarge.field-0-is at c.in-Err-TooLarge.ensures.formed in
     definition-large (name_at t0.names c.args.name) (term_at t0.terms c.args.body) definable (sym (ap nameless_within_limits is) ∙ past-only _ _ formed)

@@ -13,9 +13,9 @@ returns-clause-taken c =
     let premise = sequent_in terms c.args.premise.now in
     let variable : sequents.is_free_variable (term_at terms c.args.variable) ≡ true = cc (c.is_free_variable.ensures, c.if-not-is_free_variable.false) in
     let equation : sequents.is_equation premise.conclusion ≡ true = cc (c.is_equation.ensures, c.if-not-is_equation.false) in
-    let found = rw c.deref.ensures.value at c.in-Ok-false.ensures.found in
-    let none : is_free_in_any (term_at terms c.args.variable) premise.hypotheses ≡ false = sym found ∙ c.in-Ok-false.field-0-test in
-    let order : AreInOrder terms c.in-Ok.hypotheses.items premise.hypotheses = rw c.deref-2.ensures.value at c.in-Ok.ensures.all in
+    let found = rw c.deref.ensures.value at c.in_ok-found.ensures.found in
+    let none : is_free_in_any (term_at terms c.args.variable) premise.hypotheses ≡ false = sym found ∙ c.if-found.false in
+    let order : AreInOrder terms c.in_ok-hypotheses.hypotheses.items premise.hypotheses = rw c.deref-2.ensures.value at c.in_ok-hypotheses.ensures.all in
     let formed = rw (c.left_side-left.ensures.side, c.right_side-right.ensures.side) at c.equation_of_abstractions.ensures.formed in
     typed-taken _ _ _ _ _ (ap not variable) (neither _ _ equation none) (c.conclude.ensures c.args.terms.now c.equation_of_abstractions.new.terms premise.hypotheses
     (sequents.equation_of (sequents.abstraction_over (term_at terms c.args.variable) (sequents.left_side premise.conclusion))

@@ -14,7 +14,7 @@ loop-pair-preserved c =
     record {
       grows = IsGrown-trans t0 t1 c.is_replacement.new.terms c.loop-pair.invariant.grows c.is_replacement.ensures.grows;
       rest =
-          replaced-more t0 t1 c.args.pairs.now c.loop-pair.pair-index (0, 0) c.in-Ok-true.field-0 c.loop-pair.invariant.grows c.loop-pair-test.true c.requires c.loop-pair.invariant.rest
-          c.in-Ok-true.ensures.is
-          ∙ ap (λ b. b && rest) c.in-Ok-true.field-0-test;
+          replaced-more t0 t1 c.args.pairs.now c.loop-pair.pair-index (0, 0) c.in_ok-replaces.replaces c.loop-pair.invariant.grows c.loop-pair-test.true c.requires c.loop-pair.invariant.rest
+          c.in_ok-replaces.ensures.is
+          ∙ ap (λ b. b && rest) c.if-not-replaces.false;
     }

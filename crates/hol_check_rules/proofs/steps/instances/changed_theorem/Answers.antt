@@ -25,7 +25,7 @@ returns-clause-taken c = λ meaning meant.
     let grows = c.change_each.ensures.grows in
     let premise = sequent_in t0.terms c.args.premise.now in
     let named = rw c.deref.ensures.value at (c.in-Ok.ensures.changed meaning meant).named in
-    let order = rw (c.deref-2.ensures.value, named) at c.in-Ok-set_of.ensures.all in
+    let order = rw (c.deref-2.ensures.value, named) at c.in_ok-hypotheses.ensures.all in
     let formed = rw (term-grown t0 t1 c.args.premise.now.conclusion grows c.requires.premise.conclusion.within)
     at (c.change_within.ensures.changed meaning (meant-grown t0 t1 grows c.args.change.now meaning meant)) in
     c.conclude.ensures t1 t2 (map (changed meaning 0) premise.hypotheses) (changed meaning 0 premise.conclusion) c.change_within.ensures.grows order formed

@@ -8,5 +8,5 @@ returns-in-Ok-true-clause-taken c =
     let t0 = c.args.terms.now in
     let t1 = c.is_formula.new.terms in
     typed-taken _ _ _ _ _ (ap not (sym c.in-Ok-true.ensures.formula ∙ c.in-Ok-true.field-0-test)) refl
-    (c.conclude.ensures t0 t1 (term_at t0.terms c.args.term ∷ []) (term_at t0.terms c.args.term) c.is_formula.ensures.grows c.in-Ok.ensures.all
+    (c.conclude.ensures t0 t1 (term_at t0.terms c.args.term ∷ []) (term_at t0.terms c.args.term) c.is_formula.ensures.grows c.in_ok-hypotheses.ensures.all
     (formed-earlier t0 t1 c.args.term c.is_formula.ensures.grows c.requires))

@@ -13,6 +13,6 @@ returns-clause-taken c =
     let second = sequent_in terms c.args.second.now in
     let is : sequents.is_equation first.conclusion ≡ true = cc (c.is_equation.ensures, c.if-not-is_equation.false) in
     let same : same_term (sequents.left_side first.conclusion) second.conclusion ≡ true = cc (c.is_same.ensures, c.if-not-is_same.false, c.left_side.ensures.side) in
-    let order : AreInOrder terms c.in-Ok.hypotheses.items (first.hypotheses ++ second.hypotheses) = rw (c.deref.ensures.value, c.deref-2.ensures.value) at c.in-Ok.ensures.all in
+    let order : AreInOrder terms c.in_ok-hypotheses.hypotheses.items (first.hypotheses ++ second.hypotheses) = rw (c.deref.ensures.value, c.deref-2.ensures.value) at c.in_ok-hypotheses.ensures.all in
     let formed = rw c.right_side-right.ensures.side at c.within_limits.ensures.formed in
     ruled-taken _ _ _ _ (not-both _ _ is same) (c.conclude.ensures c.args.terms.now c.within_limits.new.terms (first.hypotheses ++ second.hypotheses) _ c.within_limits.ensures.grows order formed)
