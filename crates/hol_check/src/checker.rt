@@ -64,10 +64,7 @@ pub fn check_log<R: Source>(alloc: Global, reader: &mut R) -> Result<CheckedLog,
         Ok(log) => Rc::new(alloc, log)?,
         Err(fault) => return Err(fault),
     };
-    let entries = match entries_of(alloc, log.clone()?) {
-        Ok(entries) => entries,
-        Err(fault) => return Err(fault),
-    };
+    let entries = entries_of(alloc, log.clone()?)?;
     match claims_of(alloc, log) {
         Ok(claims) => Ok(CheckedLog { claims, entries }),
         Err(fault) => Err(fault),

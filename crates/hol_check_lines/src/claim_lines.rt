@@ -47,10 +47,7 @@ pub(crate) fn judge_claim(
     if !is_identifier(name) {
         return Ok(Err(Cause::Name));
     }
-    let ordered = match set_of(alloc, terms, &supposed) {
-        Ok(ordered) => ordered,
-        Err(fault) => return Err(fault),
-    };
+    let ordered = set_of(alloc, terms, &supposed)?;
     if !concludes(terms, proved, concluded, &ordered) {
         return Ok(Err(Cause::Claim));
     }

@@ -77,10 +77,7 @@ fn make_lines(
     ensures refused { IfErr result (λ fault. fault ≡ Memory) }
 {
     for line in lines {
-        match make_line(alloc, terms, contents, *line) {
-            Ok(()) => {}
-            Err(fault) => return Err(fault),
-        }
+        make_line(alloc, terms, contents, *line)?;
     }
     Ok(())
 }
@@ -98,10 +95,7 @@ fn make_pairs(
     ensures refused { IfErr result (λ fault. fault ≡ Memory) }
 {
     for pair in pairs {
-        match make_pair(alloc, terms, contents, pair.0, pair.1) {
-            Ok(()) => {}
-            Err(fault) => return Err(fault),
-        }
+        make_pair(alloc, terms, contents, pair.0, pair.1)?;
     }
     Ok(())
 }

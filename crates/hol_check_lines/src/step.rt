@@ -280,10 +280,7 @@ fn judge_definition(
     if !is_constant_name(name) {
         return Ok(Err(Cause::Name));
     }
-    let number = match terms.name(alloc, name) {
-        Ok(number) => number,
-        Err(fault) => return Err(fault),
-    };
+    let number = terms.name(alloc, name)?;
     if !is_new_name(terms, &contents.known, number) {
         return Ok(Err(Cause::Name));
     }

@@ -22,10 +22,7 @@ pub fn take(alloc: Global, log: &mut Log, line: &Line<'_>) -> Result<Result<(), 
     ensures taken { IfOk result (IsTaken log.old (line_of line.now) log.new) }
     ensures refused { IfErr result (λ fault. fault ≡ Memory) }
 {
-    match make_named(alloc, &mut log.table, &mut log.contents, line) {
-        Ok(()) => {}
-        Err(fault) => return Err(fault),
-    }
+    make_named(alloc, &mut log.table, &mut log.contents, line)?;
     let addition = match judge(alloc, &mut log.table, &log.contents, line) {
         Ok(Ok(addition)) => addition,
         Ok(Err(cause)) => return Ok(Err(cause)),

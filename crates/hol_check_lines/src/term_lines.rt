@@ -59,10 +59,7 @@ pub(crate) fn judge_constant(
     if !is_constant_name(name) {
         return Ok(Err(Cause::Name));
     }
-    let number = match terms.name(alloc, name) {
-        Ok(number) => number,
-        Err(fault) => return Err(fault),
-    };
+    let number = terms.name(alloc, name)?;
     if !knows_constant(terms, &contents.known, number, named) {
         return Ok(Err(Cause::Const));
     }

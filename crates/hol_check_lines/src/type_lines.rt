@@ -83,10 +83,7 @@ pub(crate) fn judge_declared_type(
     if !is_declared_type_name(name) {
         return Ok(Err(Cause::Name));
     }
-    let number = match terms.name(alloc, name) {
-        Ok(number) => number,
-        Err(fault) => return Err(fault),
-    };
+    let number = terms.name(alloc, name)?;
     if !is_declared(terms, &contents.known, number) {
         return Ok(Err(Cause::Kind));
     }

@@ -12,7 +12,7 @@ returns-in-Ok-claims_of-clause-listed g c = record {
   has_claims =
       has_claims (g.R.Source.remaining c.args.reader.now) c.in-Ok.log c.in-Ok-claims_of.claims.items c.accepted_logs_are_sound.ensures c.accepted_claims_hold.ensures c.in-Ok.ensures.accepted
       (c.in-Ok-claims_of.ensures.claims ∙ ap (λ (log : LogState). log.claims) c.in_ok-log-in-Ok.ensures.ok);
-  are_entries = c.in-Ok-entries_of.ensures.entries ∙ ap (λ (log : LogState). entries_in log.theory) (c.in_ok-clone.ensures.cases ∙ c.in_ok-log-in-Ok.ensures.ok);
+  are_entries = c.in_ok-entries.ensures.entries ∙ ap (λ (log : LogState). entries_in log.theory) (c.in_ok-clone.ensures.cases ∙ c.in_ok-log-in-Ok.ensures.ok);
 }
 
 pub returns-in_err-log-in-Ok-clause-memory : goal.returns-in_err-log-in-Ok-clause-memory
@@ -24,8 +24,8 @@ returns-in-Err-clause-memory g c = λ wants. c.in-Err.ensures.memory (ap Err (fa
 pub returns-in_err-clone-clause-memory : goal.returns-in_err-clone-clause-memory
 returns-in_err-clone-clause-memory g c = λ wants. read_whole c.in-Ok.ensures.accepted.read
 
-pub returns-in-Err-entries_of-clause-memory : goal.returns-in-Err-entries_of-clause-memory
-returns-in-Err-entries_of-clause-memory g c = λ wants. read_whole c.in-Ok.ensures.accepted.read
+pub returns-in_err-entries-clause-memory : goal.returns-in_err-entries-clause-memory
+returns-in_err-entries-clause-memory g c = λ wants. read_whole c.in-Ok.ensures.accepted.read
 
 pub returns-in-Err-claims_of-clause-memory : goal.returns-in-Err-claims_of-clause-memory
 returns-in-Err-claims_of-clause-memory g c = λ wants. read_whole c.in-Ok.ensures.accepted.read

@@ -17,8 +17,8 @@ invariant_of-log c = c.make_named.ensures.makes.is_contents
 pub invariant_of-log-in-Ok-Err : goal.invariant_of-log-in-Ok-Err
 invariant_of-log-in-Ok-Err c = contents-grown c.make_named.new.terms c.judge.new.terms c.judge.ensures.grows c.make_named.new.contents c.make_named.ensures.makes.is_contents
 
-pub invariant_of-log-in-Err-judge : goal.invariant_of-log-in-Err-judge
-invariant_of-log-in-Err-judge c = contents-grown c.make_named.new.terms c.judge.new.terms c.judge.ensures.grows c.make_named.new.contents c.make_named.ensures.makes.is_contents
+pub invariant_of-log-in-Err : goal.invariant_of-log-in-Err
+invariant_of-log-in-Err c = contents-grown c.make_named.new.terms c.judge.new.terms c.judge.ensures.grows c.make_named.new.contents c.make_named.ensures.makes.is_contents
 
 pub invariant_of-log-then-ends_wrongly : goal.invariant_of-log-then-ends_wrongly
 invariant_of-log-then-ends_wrongly c = contents-grown c.make_named.new.terms c.judge.new.terms c.judge.ensures.grows c.make_named.new.contents c.make_named.ensures.makes.is_contents
@@ -52,13 +52,13 @@ returns-clause-taken c =
     c.in-Ok-Ok.ensures.judged in
     let now = state_of c.judge.new.terms c.add.new.contents in
     elim c.match-add.branch [
-      | in-Ok-add w ↦ subst (λ r. IfOk r (IsTaken c.args.log.now (line_of c.args.line.now) now)) (sym w.result-is)
+      | in-Ok w ↦ subst (λ r. IfOk r (IsTaken c.args.log.now (line_of c.args.line.now) now)) (sym w.result-is)
           (subst (λ s. IsTakenLine s (line_of c.args.line.now) now) (state-made c.log.inside.table c.make_named.new.terms c.log.inside.contents c.make_named.new.contents
           c.make_named.ensures.makes c.log.invariant ∙ c.log.view_is)
           (taken-line c.make_named.new.terms c.judge.new.terms c.make_named.new.contents c.add.new.contents (line_of c.args.line.now) c.in-Ok-Ok.addition
           c.make_named.ensures.makes.is_contents c.judge.ensures.grows judged
           (sym (c.ends_wrongly.ensures c.make_named.new.terms) ∙ c.if-ends_wrongly.false)
-          (w.in-Ok-add.ensures.added c.judge.new.terms (contents-grown c.make_named.new.terms c.judge.new.terms c.judge.ensures.grows c.make_named.new.contents
+          (w.in-Ok.ensures.added c.judge.new.terms (contents-grown c.make_named.new.terms c.judge.new.terms c.judge.ensures.grows c.make_named.new.contents
           c.make_named.ensures.makes.is_contents) judged.added)))
       | in-Err-add w ↦ subst (λ r. IfOk r (IsTaken c.args.log.now (line_of c.args.line.now) now)) (sym w.result-is) tt
     ]
