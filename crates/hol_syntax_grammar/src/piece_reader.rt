@@ -104,10 +104,7 @@ fn take_type<'a, 'b>(
 ) -> Result<(Vec<TypeStep<'a>>, &'b [Token<'a>]), ReadError>
     ensures { IsTyped result (type_until (ending_here wanted) (run (tokens_of tokens.now) [] None)) }
 {
-    let (steps, count) = match read_type_steps(alloc, tokens) {
-        Ok(found) => found,
-        Err(error) => return Err(error),
-    };
+    let (steps, count) = read_type_steps(alloc, tokens)?;
     if count >= tokens.len() {
         return Err(ReadError::Syntax);
     }
@@ -142,10 +139,8 @@ fn take_variable<'a, 'b>(
 ) -> Result<(Piece<'a>, &'b [Token<'a>]), ReadError>
     ensures { IsTaken result (made (λ tree. AtomPiece (Variable name.now tree)) (typed EndsVariable (tokens_of tokens.now))) }
 {
-    match take_typed(alloc, Ending::Variable, tokens) {
-        Ok((steps, rest)) => Ok((Piece::Atom(TermStep::Variable(name, steps)), rest)),
-        Err(error) => Err(error),
-    }
+    let (steps, rest) = take_typed(alloc, Ending::Variable, tokens)?;
+    Ok((Piece::Atom(TermStep::Variable(name, steps)), rest))
 }
 
 // What a parenthesis opens: a variable with its type, where a name and a colon come next, or itself alone.
@@ -184,10 +179,8 @@ fn take_bracket<'a, 'b>(
     let Some(name) = constant_name(token) else {
         return Err(ReadError::Syntax);
     };
-    match take_typed(alloc, Ending::Constant, rest) {
-        Ok((steps, rest)) => Ok((Piece::Atom(TermStep::Constant(name, steps)), rest)),
-        Err(error) => Err(error),
-    }
+    let (steps, behind) = take_typed(alloc, Ending::Constant, rest)?;
+    Ok((Piece::Atom(TermStep::Constant(name, steps)), behind))
 }
 
 // A name with its type, behind a binder.
@@ -204,10 +197,8 @@ fn take_binder<'a, 'b>(
     let Token::Name(name) = token else {
         return Err(ReadError::Syntax);
     };
-    match take_typed(alloc, Ending::Binder, rest) {
-        Ok((steps, behind)) => Ok((Piece::Bind(binder, TermStep::Enter(name, steps)), behind)),
-        Err(error) => Err(error),
-    }
+    let (steps, behind) = take_typed(alloc, Ending::Binder, rest)?;
+    Ok((Piece::Bind(binder, TermStep::Enter(name, steps)), behind))
 }
 
 // The piece that begins with a symbol.

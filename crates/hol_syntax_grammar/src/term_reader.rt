@@ -226,13 +226,9 @@ impl<'a> TermReader<'a> {
         ensures { (opens : List Pending) (current : Option TermTree) → IsState self.old opens current
             → IsStepped result self.new (tokens_of tokens.now) opens current }
     {
-        match take_piece(alloc, tokens) {
-            Ok((piece, rest)) => match self.turn(piece) {
-                Ok(()) => Ok(tokens.len() - rest.len()),
-                Err(error) => Err(error),
-            },
-            Err(error) => Err(error),
-        }
+        let (piece, rest) = take_piece(alloc, tokens)?;
+        self.turn(piece)?;
+        Ok(tokens.len() - rest.len())
     }
 
     // The end of the tokens.
@@ -263,13 +259,8 @@ pub fn parse_term<'a>(alloc: Global, tokens: &[Token<'a>]) -> Result<Vec<TermSte
     };
     let mut at = 0;
     while at < tokens.len() {
-        match reader.take(alloc, &tokens[at..]) {
-            Ok(count) => at += count,
-            Err(error) => return Err(error),
-        }
+        at += reader.take(alloc, &tokens[at..])?;
     }
-    match reader.finish() {
-        Ok(()) => Ok(reader.steps),
-        Err(error) => Err(error),
-    }
+    reader.finish()?;
+    Ok(reader.steps)
 }

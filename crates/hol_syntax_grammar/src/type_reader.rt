@@ -199,15 +199,12 @@ pub fn read_type_steps<'a>(
         complete: false,
     };
     for (i, token) in tokens.iter().enumerate() {
-        match reader.turn(type_role(*token)) {
-            Ok(true) => {}
-            Ok(false) => return Ok((reader.steps, i)),
-            Err(error) => return Err(error),
+        if !reader.turn(type_role(*token))? {
+            return Ok((reader.steps, i));
         }
     }
-    match reader.turn(Role::Stops) {
-        Ok(true) => Err(ReadError::Syntax),
-        Ok(false) => Ok((reader.steps, tokens.len())),
-        Err(error) => Err(error),
+    if reader.turn(Role::Stops)? {
+        return Err(ReadError::Syntax);
     }
+    Ok((reader.steps, tokens.len()))
 }

@@ -1,4 +1,5 @@
 use Rattle.std.proofs.Common.{[], None, refl, ap, map, arith}
+use Rattle.std.proofs.lemmas.Result.{err_from_is_err_and}
 use Rattle.hol_syntax_grammar.specs.Views.{tokens_of}
 use Rattle.hol_syntax_grammar.specs.Steps.{flat_steps_of}
 use Rattle.hol_syntax_grammar.specs.TermStates.{open_here}
@@ -17,33 +18,37 @@ loop-at-init c = (
 pub loop-at-preserved : goal.loop-at-preserved
 loop-at-preserved c =
     let i = c.loop-at.invariant in
-    (steps_on c.args.tokens.now c.loop-at.at c.in-Ok.count c.take.new.self i.0 i.1 i.4 i.3 (c.in-Ok.ensures i.0 i.1 i.2)).0
+    (steps_on c.args.tokens.now c.loop-at.at c.in_ok-at.field-0 c.take.new.self i.0 i.1 i.4 i.3 (c.in_ok-at.ensures i.0 i.1 i.2)).0
 
 pub loop-at-smaller : goal.loop-at-smaller
 loop-at-smaller c =
     let i = c.loop-at.invariant in
-    let on = steps_on c.args.tokens.now c.loop-at.at c.in-Ok.count c.take.new.self i.0 i.1 i.4 i.3 (c.in-Ok.ensures i.0 i.1 i.2) in
+    let on = steps_on c.args.tokens.now c.loop-at.at c.in_ok-at.field-0 c.take.new.self i.0 i.1 i.4 i.3 (c.in_ok-at.ensures i.0 i.1 i.2) in
     omega (arith, on.0.4, on.1)
 
 pub overflow_add-at : goal.overflow_add-at
 overflow_add-at c =
     let i = c.loop-at.invariant in
-    let on = steps_on c.args.tokens.now c.loop-at.at c.in-Ok.count c.take.new.self i.0 i.1 i.4 i.3 (c.in-Ok.ensures i.0 i.1 i.2) in
+    let on = steps_on c.args.tokens.now c.loop-at.at c.in_ok-at.field-0 c.take.new.self i.0 i.1 i.4 i.3 (c.in_ok-at.ensures i.0 i.1 i.2) in
     omega (arith, on.0.4)
 
-pub returns-in-Err : goal.returns-in-Err
-returns-in-Err c =
+pub returns-in_err-at : goal.returns-in_err-at
+returns-in_err-at c =
     let i = c.loop-at.invariant in
-    stops_here c.args.tokens.now c.loop-at.at c.in-Err.error c.take.new.self i.0 i.1 (omega arith) i.3 (c.in-Err.ensures i.0 i.1 i.2)
-
-pub returns-in-Ok-finish : goal.returns-in-Ok-finish
-returns-in-Ok-finish c =
-    let i = c.loop-at.invariant in
-    let whole = c.in-Ok-finish.ensures i.0 i.1 i.2 in
-    (whole.0, ends_read (tokens_of c.args.tokens.now) i.0 i.1 whole.0 (at_end c.args.tokens.now c.loop-at.at i.0 i.1 (omega arith) i.3) whole.1, whole.2)
+    let p = err_from_is_err_and c.from_residual.result c.from_residual.ensures.1 in
+    rw (p.1, p.2)
+    (stops_here c.args.tokens.now c.loop-at.at c.in_err-at.field-0.0 c.take.new.self i.0 i.1 (omega arith) i.3 (c.in_err-at.ensures i.0 i.1 i.2))
 
 pub returns : goal.returns
 returns c =
     let i = c.loop-at.invariant in
-    ends_unread c.in-Err-finish.error c.finish.new.self (tokens_of c.args.tokens.now) i.0 i.1 (at_end c.args.tokens.now c.loop-at.at i.0 i.1 (omega arith) i.3)
-    (c.in-Err-finish.ensures i.0 i.1 i.2)
+    let whole = c.in_ok-finish.ensures i.0 i.1 i.2 in
+    (whole.0, ends_read (tokens_of c.args.tokens.now) i.0 i.1 whole.0 (at_end c.args.tokens.now c.loop-at.at i.0 i.1 (omega arith) i.3) whole.1, whole.2)
+
+pub returns-in_err-finish : goal.returns-in_err-finish
+returns-in_err-finish c =
+    let i = c.loop-at.invariant in
+    let p = err_from_is_err_and c.from_residual-in_err-finish.result c.from_residual-in_err-finish.ensures.1 in
+    rw (p.1, p.2)
+    (ends_unread c.in_err-finish.field-0.0 c.finish.new.self (tokens_of c.args.tokens.now) i.0 i.1 (at_end c.args.tokens.now c.loop-at.at i.0 i.1 (omega arith) i.3)
+    (c.in_err-finish.ensures i.0 i.1 i.2))
