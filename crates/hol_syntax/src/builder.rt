@@ -63,10 +63,7 @@ pub fn typed_variable(
     ensures { (tree : TypeTree) → steps_of steps.now ≡ type_steps tree
         → Answers result (variable_meaning (scope_of scope.now) name.now tree) }
 {
-    let ty = match build_type(alloc, scope, steps) {
-        Ok(ty) => ty,
-        Err(fault) => return Err(fault),
-    };
+    let ty = build_type(alloc, scope, steps)?;
     variable(alloc, name, &ty)
 }
 
@@ -168,10 +165,7 @@ pub fn typed_constant(
     ensures { (tree : TypeTree) → steps_of steps.now ≡ type_steps tree
         → Answers result (constant_meaning (scope_of scope.now) name.now tree) }
 {
-    let ty = match build_type(alloc, scope, steps) {
-        Ok(ty) => ty,
-        Err(fault) => return Err(fault),
-    };
+    let ty = build_type(alloc, scope, steps)?;
     constant(alloc, scope, name, &ty)
 }
 
@@ -277,14 +271,8 @@ fn quantify(
     if !truth.eq(body_type) {
         return Err(Fault::TypeMismatch);
     }
-    let operator = match quantifier_operator(alloc, name, binder_type) {
-        Ok(operator) => operator,
-        Err(fault) => return Err(fault),
-    };
-    let predicate = match abstraction(alloc, binder, body) {
-        Ok(predicate) => predicate,
-        Err(fault) => return Err(fault),
-    };
+    let operator = quantifier_operator(alloc, name, binder_type)?;
+    let predicate = abstraction(alloc, binder, body)?;
     apply(alloc, &operator, &predicate)
 }
 
@@ -309,14 +297,8 @@ fn choose(alloc: Global, binder: &Term, body: &Term) -> Result<Term, Fault>
         return Err(Fault::TypeMismatch);
     }
     let binder_type = binder.ty();
-    let operator = match choice_operator(alloc, binder_type) {
-        Ok(operator) => operator,
-        Err(fault) => return Err(fault),
-    };
-    let predicate = match abstraction(alloc, binder, body) {
-        Ok(predicate) => predicate,
-        Err(fault) => return Err(fault),
-    };
+    let operator = choice_operator(alloc, binder_type)?;
+    let predicate = abstraction(alloc, binder, body)?;
     apply(alloc, &operator, &predicate)
 }
 

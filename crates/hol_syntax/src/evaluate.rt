@@ -135,10 +135,8 @@ impl Evaluator {
         ensures { (work : Workspace) → IsHeld self.old work
             → Arrives result self.new (model.take_step (scope_of scope.now) (LeaveBinder (binder_here quantifier)) work) }
     {
-        let binder = match self.binders.leave(alloc) {
-            Ok(Some(binder)) => binder,
-            Ok(None) => return Err(Fault::TypeMismatch),
-            Err(fault) => return Err(fault),
+        let Some(binder) = self.binders.leave(alloc)? else {
+            return Err(Fault::TypeMismatch);
         };
         let Some(body) = pop_term(&mut self.terms) else {
             return Err(Fault::TypeMismatch);
@@ -184,10 +182,7 @@ pub fn term_of_steps(alloc: Global, scope: &Scope, steps: &[TermStep]) -> Result
         leaves: Leaves::new(alloc),
     };
     for step in steps {
-        match evaluator.take_step(alloc, scope, step) {
-            Ok(()) => {}
-            Err(fault) => return Err(fault),
-        }
+        evaluator.take_step(alloc, scope, step)?;
     }
     match pop_term(&mut evaluator.terms) {
         Some(term) => Ok(term),

@@ -62,16 +62,12 @@ fn parse_list<'a>(alloc: Global, tokens: &[Token<'a>]) -> Result<Vec<Vec<TermSte
     }
     let mut at = 0;
     while let Some(count) = find(Separator::Comma, &tokens[at..]) {
-        match parse_term(alloc, &tokens[at..at + count]) {
-            Ok(steps) => parsed.push(steps)?,
-            Err(error) => return Err(error),
-        }
+        let steps = parse_term(alloc, &tokens[at..at + count])?;
+        parsed.push(steps)?;
         at += count + 1;
     }
-    match parse_term(alloc, &tokens[at..]) {
-        Ok(steps) => parsed.push(steps)?,
-        Err(error) => return Err(error),
-    }
+    let last = parse_term(alloc, &tokens[at..])?;
+    parsed.push(last)?;
     Ok(parsed)
 }
 
@@ -85,14 +81,9 @@ fn parse_sequent<'a>(
     let Some(count) = find(Separator::Turnstile, tokens) else {
         return Err(ReadError::Syntax);
     };
-    let hypotheses = match parse_list(alloc, &tokens[..count]) {
-        Ok(hypotheses) => hypotheses,
-        Err(error) => return Err(error),
-    };
-    match parse_term(alloc, &tokens[count + 1..]) {
-        Ok(conclusion) => Ok((hypotheses, conclusion)),
-        Err(error) => Err(error),
-    }
+    let hypotheses = parse_list(alloc, &tokens[..count])?;
+    let conclusion = parse_term(alloc, &tokens[count + 1..])?;
+    Ok((hypotheses, conclusion))
 }
 
 // The term of the type of truth values that the steps of a tree make.
@@ -100,10 +91,7 @@ fn formula_of_steps(alloc: Global, scope: &Scope, steps: &[TermStep]) -> Result<
     ensures { (tree : TermTree) → flat_steps_of steps.now ≡ flat_steps (term_steps tree)
         → Answers result (formula_meaning (scope_of scope.now) tree) }
 {
-    let term = match term_of_steps(alloc, scope, steps) {
-        Ok(term) => term,
-        Err(fault) => return Err(fault),
-    };
+    let term = term_of_steps(alloc, scope, steps)?;
     if is_a_formula(&term) {
         Ok(term)
     } else {
@@ -128,10 +116,8 @@ fn formulas_of_steps(
 {
     let mut terms = Vec::new(alloc);
     for steps in parsed {
-        match formula_of_steps(alloc, scope, steps) {
-            Ok(term) => terms.push(term)?,
-            Err(fault) => return Err(fault),
-        }
+        let term = formula_of_steps(alloc, scope, steps)?;
+        terms.push(term)?;
     }
     Ok(terms)
 }
@@ -151,14 +137,9 @@ pub fn read_sequent(alloc: Global, scope: &Scope, text: &[u8]) -> Result<(Vec<Te
         Err(ReadError::Memory) => return Err(Fault::Memory),
         Err(ReadError::Syntax) => return Err(Fault::Syntax),
     };
-    let hypotheses = match formulas_of_steps(alloc, scope, &parsed) {
-        Ok(hypotheses) => hypotheses,
-        Err(fault) => return Err(fault),
-    };
-    match formula_of_steps(alloc, scope, &last) {
-        Ok(conclusion) => Ok((hypotheses, conclusion)),
-        Err(fault) => Err(fault),
-    }
+    let hypotheses = formulas_of_steps(alloc, scope, &parsed)?;
+    let conclusion = formula_of_steps(alloc, scope, &last)?;
+    Ok((hypotheses, conclusion))
 }
 
 /// A text is spelled as one tree of a sequent.

@@ -1,4 +1,5 @@
 use Rattle.std.proofs.Common.{◌≡◌, ◌∷◌, suc, drop, inl, inr, ⊎_elim, ap, sym, ◌∙◌, add-one, arith}
+use Rattle.std.proofs.lemmas.Result.{err_from_is_err_and}
 use Rattle.hol_model.specs.Texts.SequentGrammar.{formulas_meaning}
 use Rattle.hol_syntax.specs.Scope.{scope_of}
 use Rattle.hol_syntax_grammar.specs.Steps.{flat_steps_of}
@@ -10,8 +11,8 @@ pub loop-steps-init : goal.loop-steps-init
 loop-steps-init c = λ trees h.
     behind_none (formulas_meaning (scope_of c.args.scope.now) trees) ∙ ap (λ l. behind l (formulas_meaning (scope_of c.args.scope.now) trees)) (sym c.new-terms.ensures.items)
 
-pub returns-in-Err : goal.returns-in-Err
-returns-in-Err c = λ trees h.
+pub returns-in_err-term : goal.returns-in_err-term
+returns-in_err-term c = λ trees h.
     let scope = scope_of c.args.scope.now in
     let terms = c.loop-steps.terms.items in
     let at = steps_at c.args.parsed.now trees c.loop-steps.steps-index c.steps-item.result h (omega arith) in
@@ -19,7 +20,9 @@ returns-in-Err c = λ trees h.
     let rest = drop (suc c.loop-steps.steps-index) trees in
     let all : formulas_meaning scope trees ≡ behind terms (formulas_meaning scope (at.tree ∷ rest)) =
     c.loop-steps.invariant trees h ∙ ap (λ l. behind terms (formulas_meaning scope l)) at.left in
-    ⊎_elim (λ m. inl m) (λ e. inr (all ∙ e)) (refused_one scope terms c.in-Err.fault at.tree rest (c.in-Err.ensures at.tree steps))
+    let p = err_from_is_err_and c.from_residual.result c.from_residual.ensures.1 in
+    rw (p.1, p.2)
+    (⊎_elim (λ m. inl m) (λ e. inr (all ∙ e)) (refused_one scope terms c.in_err-term.field-0.0 at.tree rest (c.in_err-term.ensures at.tree steps)))
 
 pub loop-steps-preserved : goal.loop-steps-preserved
 loop-steps-preserved c = λ trees h.
@@ -29,8 +32,8 @@ loop-steps-preserved c = λ trees h.
     let steps : flat_steps_of c.deref.result.now ≡ flat_steps (term_steps at.tree) = ap flat_steps_of (c.deref.ensures.value ∙ ap (λ v. v.items) c.steps-item.is) ∙ at.steps_are in
     let rest = drop (suc c.loop-steps.steps-index) trees in
     c.loop-steps.invariant trees h ∙ ap (λ l. behind terms (formulas_meaning scope l)) at.left
-    ∙ made_one scope terms c.in-Ok.term at.tree rest (c.in-Ok.ensures at.tree steps)
-    ∙ ap (λ l. behind l (formulas_meaning scope rest)) (sym c.in_ok-push-in-Ok.ensures.items)
+    ∙ made_one scope terms c.in_ok-term.term at.tree rest (c.in_ok-term.ensures at.tree steps)
+    ∙ ap (λ l. behind l (formulas_meaning scope rest)) (sym c.in_ok-push.ensures.items)
     ∙ ap (λ k. behind c.push.new.self.items (formulas_meaning scope (drop k trees))) (sym (add-one c.loop-steps.steps-index))
 
 pub returns : goal.returns

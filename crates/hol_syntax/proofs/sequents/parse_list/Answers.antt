@@ -1,4 +1,5 @@
 use Rattle.std.proofs.Common.{[], None, Some, Ok, Err, sym, subst}
+use Rattle.std.proofs.lemmas.Result.{err_from_is_err_and}
 use Rattle.hol_syntax.specs.declared.sequents.Separator.TheVariants.{Comma as CommaHere}
 use Rattle.hol_syntax_grammar.specs.Views.{tokens_of}
 use Rattle.hol_syntax_grammar.specs.TermStates.{Parses}
@@ -10,13 +11,15 @@ use Rattle.hol_syntax.proofs.sequents.parse_list.Goals as goal
 pub returns-then-is_empty : goal.returns-then-is_empty
 returns-then-is_empty c = ([], [], tt, is_nil c.args.tokens.now c.if-is_empty.ensures, subst (λ l. AreSteps l []) (sym c.new-parsed.ensures.items) tt)
 
-pub returns-in-Err : goal.returns-in-Err
-returns-in-Err c =
+pub returns-in_err-steps : goal.returns-in_err-steps
+returns-in_err-steps c =
     let tokens = c.args.tokens.now in
     let at = c.loop-count.at in
     let n = c.in-Some.count in
-    fails_within c.in-Err.error (tokens_of tokens) at n c.loop-count.parsed.items (not_empty tokens c.if-is_empty.ensures) c.loop-count.invariant.listed
-    (subst (λ l. IsFound (Some n) CommaHere l) (rest_here at tokens) c.in-Some.ensures) (subst (λ l. Parses (Err c.in-Err.error) l) (part_here at n tokens) c.in-Err.ensures)
+    let p = err_from_is_err_and c.from_residual.result c.from_residual.ensures.1 in
+    rw (p.1, p.2)
+    (fails_within c.in_err-steps.field-0.0 (tokens_of tokens) at n c.loop-count.parsed.items (not_empty tokens c.if-is_empty.ensures) c.loop-count.invariant.listed
+    (subst (λ l. IsFound (Some n) CommaHere l) (rest_here at tokens) c.in-Some.ensures) (subst (λ l. Parses (Err c.in_err-steps.field-0.0) l) (part_here at n tokens) c.in_err-steps.ensures))
 
 pub loop-count-preserved : goal.loop-count-preserved
 loop-count-preserved c =
@@ -25,23 +28,25 @@ loop-count-preserved c =
     let n = c.in-Some.count in
     let found = subst (λ l. IsFound (Some n) CommaHere l) (rest_here at tokens) c.in-Some.ensures in
     record {
-      listed = listed_more (tokens_of tokens) at n c.loop-count.parsed.items c.push.new.self.items c.in-Ok.steps c.loop-count.invariant.listed found
-          (subst (λ l. Parses (Ok c.in-Ok.steps) l) (part_here at n tokens) c.in-Ok.ensures) c.in_ok-push-in-Ok.ensures.items;
+      listed = listed_more (tokens_of tokens) at n c.loop-count.parsed.items c.push.new.self.items c.in_ok-steps.steps c.loop-count.invariant.listed found
+          (subst (λ l. Parses (Ok c.in_ok-steps.steps) l) (part_here at n tokens) c.in_ok-steps.ensures) c.in_ok-push.ensures.items;
       within = within_more tokens at n c.loop-count.invariant.within found;
     }
 
-pub returns-in-Err-parse_term : goal.returns-in-Err-parse_term
-returns-in-Err-parse_term c =
+pub returns-in_err-last : goal.returns-in_err-last
+returns-in_err-last c =
     let tokens = c.args.tokens.now in
     let at = c.loop-count.at in
-    fails_last c.in-Err-parse_term.error (tokens_of tokens) at c.loop-count.parsed.items (not_empty tokens c.if-is_empty.ensures) c.loop-count.invariant.listed
+    let p = err_from_is_err_and c.from_residual-in_err-last.result c.from_residual-in_err-last.ensures.1 in
+    rw (p.1, p.2)
+    (fails_last c.in_err-last.field-0.0 (tokens_of tokens) at c.loop-count.parsed.items (not_empty tokens c.if-is_empty.ensures) c.loop-count.invariant.listed
     (subst (λ l. IsFound None CommaHere l) (rest_here at tokens) c.in_default.ensures)
-    (subst (λ l. Parses (Err c.in-Err-parse_term.error) l) (rest_here at tokens) c.in-Err-parse_term.ensures)
+    (subst (λ l. Parses (Err c.in_err-last.field-0.0) l) (rest_here at tokens) c.in_err-last.ensures))
 
 pub returns : goal.returns
 returns c =
     let tokens = c.args.tokens.now in
     let at = c.loop-count.at in
-    lists_all (tokens_of tokens) at c.loop-count.parsed.items c.push-in-Ok-parse_term.new.self.items c.in-Ok-parse_term.steps c.loop-count.invariant.listed
+    lists_all (tokens_of tokens) at c.loop-count.parsed.items c.push-2.new.self.items c.in_ok-last.last c.loop-count.invariant.listed
     (subst (λ l. IsFound None CommaHere l) (rest_here at tokens) c.in_default.ensures)
-    (subst (λ l. Parses (Ok c.in-Ok-parse_term.steps) l) (rest_here at tokens) c.in-Ok-parse_term.ensures) c.in_ok-push-in-Ok-parse_term.ensures.items
+    (subst (λ l. Parses (Ok c.in_ok-last.last) l) (rest_here at tokens) c.in_ok-last.ensures) c.in_ok-push-2.ensures.items
