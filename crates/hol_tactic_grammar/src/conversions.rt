@@ -276,14 +276,8 @@ pub fn read_unit(
     let mut step = Step::Begin(at);
     loop {
         match step {
-            Step::Begin(place) => match begin(alloc, tokens, &mut places, place, room) {
-                Ok(next) => step = next,
-                Err(error) => return Err(error),
-            },
-            Step::Close(unit, place) => match close(alloc, tokens, &mut places, unit, place) {
-                Ok(next) => step = next,
-                Err(error) => return Err(error),
-            },
+            Step::Begin(place) => step = begin(alloc, tokens, &mut places, place, room)?,
+            Step::Close(unit, place) => step = close(alloc, tokens, &mut places, unit, place)?,
             Step::End(conv, place) => return Ok((conv, place)),
         }
     }

@@ -138,17 +138,11 @@ fn read_names(
     if is_mark(tokens, at + 1, Symbol::CloseBracket) {
         return Ok((names, at + 2));
     }
-    let first = match read_name(alloc, tokens, at + 1) {
-        Ok(name) => name,
-        Err(error) => return Err(error),
-    };
+    let first = read_name(alloc, tokens, at + 1)?;
     names.push(first)?;
     let mut next = at + 2;
     while is_mark(tokens, next, Symbol::Semicolon) {
-        let name = match read_name(alloc, tokens, next + 1) {
-            Ok(name) => name,
-            Err(error) => return Err(error),
-        };
+        let name = read_name(alloc, tokens, next + 1)?;
         names.push(name)?;
         next += 2;
     }

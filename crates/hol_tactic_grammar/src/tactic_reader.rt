@@ -389,25 +389,13 @@ pub fn tactic_of<'a>(
     let mut reading = Reading::Wanted(0);
     loop {
         match reading {
-            Reading::Wanted(at) => match reader.begin(alloc, tokens, at) {
-                Ok(next) => reading = next,
-                Err(error) => return Err(error),
-            },
-            Reading::Unit(unit, place) => match reader.take_unit(alloc, unit, place) {
-                Ok(next) => reading = next,
-                Err(error) => return Err(error),
-            },
+            Reading::Wanted(at) => reading = reader.begin(alloc, tokens, at)?,
+            Reading::Unit(unit, place) => reading = reader.take_unit(alloc, unit, place)?,
             Reading::Choice(first, others, place) => {
-                match reader.take_choice(alloc, tokens, first, others, place) {
-                    Ok(next) => reading = next,
-                    Err(error) => return Err(error),
-                }
+                reading = reader.take_choice(alloc, tokens, first, others, place)?;
             }
             Reading::Chain(first, links, place) => {
-                match reader.take_chain(alloc, tokens, first, links, place) {
-                    Ok(next) => reading = next,
-                    Err(error) => return Err(error),
-                }
+                reading = reader.take_chain(alloc, tokens, first, links, place)?;
             }
             Reading::Whole(tactic) => return Ok(tactic),
         }
