@@ -64,10 +64,7 @@ pub(crate) fn add_few_atoms(alloc: Global, term: &Term, seen: &mut Vec<Term>) ->
         Form::Constantly(_) => Ok(true),
         Form::Negated(part) => add_few_atoms(alloc, part, seen),
         Form::Connected(_, left, right) => {
-            let few = match add_few_atoms(alloc, left, seen) {
-                Ok(few) => few,
-                Err(fault) => return Err(fault),
-            };
+            let few = add_few_atoms(alloc, left, seen)?;
             if !few {
                 return Ok(false);
             }

@@ -12,7 +12,7 @@ returns-then-not-few-clause-ok t c =
     let right = atom_places (proposition c.in-Connected.right.now) in
     let middle = c.add_few_atoms-in-Connected.new.seen.items in
     subst (λ (p : Proposition). ATOMS_LIMIT < length (with_new_terms seen (atom_places p))) (sym c.in-Connected.ensures.meaning)
-    (many_left left right seen middle middle (subst (λ (b : Bool). AddsFew b left seen middle) c.if-not-few.true c.in-Ok.ensures.ok))
+    (many_left left right seen middle middle (subst (λ (b : Bool). AddsFew b left seen middle) c.if-not-few.true c.in_ok-few-in-Connected.ensures.ok))
 
 pub returns-else-not-few-clause-ok : goal.returns-else-not-few-clause-ok
 returns-else-not-few-clause-ok t c =
@@ -23,4 +23,4 @@ returns-else-not-few-clause-ok t c =
     let new = c.add_few_atoms-in-Connected-2.new.seen.items in
     let result = c.add_few_atoms-in-Connected-2.result in
     subst (λ (p : Proposition). IfOk result (λ few. AddsFew few (atom_places p) seen new)) (sym c.in-Connected.ensures.meaning)
-    (few_both_result result left right seen middle new (subst (λ (b : Bool). AddsFew b left seen middle) c.if-not-few.false c.in-Ok.ensures.ok) c.add_few_atoms-in-Connected-2.ensures.ok)
+    (few_both_result result left right seen middle new (subst (λ (b : Bool). AddsFew b left seen middle) c.if-not-few.false c.in_ok-few-in-Connected.ensures.ok) c.add_few_atoms-in-Connected-2.ensures.ok)
