@@ -26,20 +26,14 @@ fn read_expression(
         },
         Tac::Host(name) => Ok(Tac::Host(name.clone()?)),
         Tac::Chain(first, links) => {
-            let first = match read_expression(alloc, scope, first) {
-                Ok(first) => first,
-                Err(fault) => return Err(fault),
-            };
+            let first = read_expression(alloc, scope, first)?;
             match read_links(alloc, scope, links) {
                 Ok(links) => Tac::chain(alloc, first, links),
                 Err(fault) => Err(fault),
             }
         }
         Tac::OrElse(first, others) => {
-            let first = match read_expression(alloc, scope, first) {
-                Ok(first) => first,
-                Err(fault) => return Err(fault),
-            };
+            let first = read_expression(alloc, scope, first)?;
             match read_each(alloc, scope, others) {
                 Ok(others) => Tac::orelse(alloc, first, others),
                 Err(fault) => Err(fault),
@@ -67,10 +61,8 @@ fn read_each(
 {
     let mut each = Vec::new(alloc);
     for tac in tacs {
-        match read_expression(alloc, scope, tac) {
-            Ok(tac) => each.push(tac)?,
-            Err(fault) => return Err(fault),
-        }
+        let tac = read_expression(alloc, scope, tac)?;
+        each.push(tac)?;
     }
     Ok(each)
 }
@@ -107,10 +99,8 @@ fn read_links(
 {
     let mut each = Vec::new(alloc);
     for link in links {
-        match read_link(alloc, scope, link) {
-            Ok(link) => each.push(link)?,
-            Err(fault) => return Err(fault),
-        }
+        let link = read_link(alloc, scope, link)?;
+        each.push(link)?;
     }
     Ok(each)
 }

@@ -12,27 +12,27 @@ use Rattle.hol_tactic_reading.proofs.expressions.«+reading».Goals as goal
 
 pub read_expression-returns-in-Ok-read_links : goal.read_expression-returns-in-Ok-read_links
 read_expression-returns-in-Ok-read_links t c = λ outcome read.
-    made-in-turn tactic_of (tactic_of c.in-Ok-read_expression.first) (links_made c.in-Ok-read_links.links) c.chain.result outcome
+    made-in-turn tactic_of (tactic_of c.in_ok-first-in-Chain.first) (links_made c.in-Ok-read_links.links) c.chain.result outcome
     (chain-in-turn (scope_of c.args.scope.now) c.in-Chain.first c.in-Chain.links outcome c.in-Chain.is c.deref.ensures c.deref-in-Chain.ensures.value read)
-    c.in-Ok-read_expression.ensures c.in-Ok-read_links.ensures c.chain.ensures.ok c.chain.ensures.err
+    c.in_ok-first-in-Chain.ensures c.in-Ok-read_links.ensures c.chain.ensures.ok c.chain.ensures.err
 
 pub read_expression-returns-in-Err-read_links : goal.read_expression-returns-in-Err-read_links
 read_expression-returns-in-Err-read_links t c = λ outcome read.
-    refused-second (tactic_of c.in-Ok-read_expression.first) c.in-Err-read_links.fault outcome
+    refused-second (tactic_of c.in_ok-first-in-Chain.first) c.in-Err-read_links.fault outcome
     (chain-in-turn (scope_of c.args.scope.now) c.in-Chain.first c.in-Chain.links outcome c.in-Chain.is c.deref.ensures c.deref-in-Chain.ensures.value read)
-    c.in-Ok-read_expression.ensures c.in-Err-read_links.ensures
+    c.in_ok-first-in-Chain.ensures c.in-Err-read_links.ensures
 
 pub read_expression-returns-in-Ok-read_each : goal.read_expression-returns-in-Ok-read_each
 read_expression-returns-in-Ok-read_each t c = λ outcome read.
-    made-in-turn tactic_of (tactic_of c.in-Ok-read_expression-2.first) (tactics_made c.in-Ok-read_each.others) c.orelse.result outcome
+    made-in-turn tactic_of (tactic_of c.in_ok-first-in-OrElse.first) (tactics_made c.in-Ok-read_each.others) c.orelse.result outcome
     (orelse-in-turn (scope_of c.args.scope.now) c.in-OrElse.first c.in-OrElse.others outcome c.in-OrElse.is c.deref-in-OrElse.ensures c.deref-in-OrElse-2.ensures.value read)
-    c.in-Ok-read_expression-2.ensures c.in-Ok-read_each.ensures c.orelse.ensures.ok c.orelse.ensures.err
+    c.in_ok-first-in-OrElse.ensures c.in-Ok-read_each.ensures c.orelse.ensures.ok c.orelse.ensures.err
 
 pub read_expression-returns-in-Err-read_each : goal.read_expression-returns-in-Err-read_each
 read_expression-returns-in-Err-read_each t c = λ outcome read.
-    refused-second (tactic_of c.in-Ok-read_expression-2.first) c.in-Err-read_each.fault outcome
+    refused-second (tactic_of c.in_ok-first-in-OrElse.first) c.in-Err-read_each.fault outcome
     (orelse-in-turn (scope_of c.args.scope.now) c.in-OrElse.first c.in-OrElse.others outcome c.in-OrElse.is c.deref-in-OrElse.ensures c.deref-in-OrElse-2.ensures.value read)
-    c.in-Ok-read_expression-2.ensures c.in-Err-read_each.ensures
+    c.in_ok-first-in-OrElse.ensures c.in-Err-read_each.ensures
 
 -- ---- THENL
 
@@ -53,8 +53,8 @@ read_link-returns-in-Err-read_each t c = λ outcome read.
 pub read_each-loop-tac-preserved : goal.read_each-loop-tac-preserved
 read_each-loop-tac-preserved t c = λ outcome read.
     let scope = scope_of c.args.scope.now in
-    list-goes-on scope c.args.tacs.now c.loop-tac.tac-index c.tac-item.result c.loop-tac.each.items c.push.new.self.items c.in-Ok.tac outcome (omega arith)
-    (c.loop-tac.invariant outcome read) (subst (λ item. ReadsExpression scope item (Ok c.in-Ok.tac)) c.tac-item.is c.in-Ok.ensures) c.in_ok-push-in-Ok.ensures.items
+    list-goes-on scope c.args.tacs.now c.loop-tac.tac-index c.tac-item.result c.loop-tac.each.items c.push.new.self.items c.in_ok-tac.tac outcome (omega arith)
+    (c.loop-tac.invariant outcome read) (subst (λ item. ReadsExpression scope item (Ok c.in_ok-tac.tac)) c.tac-item.is c.in_ok-tac.ensures) c.in_ok-push.ensures.items
 
 pub read_each-returns : goal.read_each-returns
 read_each-returns t c = λ outcome read.
@@ -63,8 +63,8 @@ read_each-returns t c = λ outcome read.
 pub read_links-loop-link-preserved : goal.read_links-loop-link-preserved
 read_links-loop-link-preserved t c = λ outcome read.
     let scope = scope_of c.args.scope.now in
-    links-goes-on scope c.args.links.now c.loop-link.link-index c.link-item.result c.loop-link.each.items c.push.new.self.items c.in-Ok.link outcome (omega arith)
-    (c.loop-link.invariant outcome read) (subst (λ item. ReadsLink scope item (Ok c.in-Ok.link)) c.link-item.is c.in-Ok.ensures) c.in_ok-push-in-Ok.ensures.items
+    links-goes-on scope c.args.links.now c.loop-link.link-index c.link-item.result c.loop-link.each.items c.push.new.self.items c.in_ok-link.link outcome (omega arith)
+    (c.loop-link.invariant outcome read) (subst (λ item. ReadsLink scope item (Ok c.in_ok-link.link)) c.link-item.is c.in_ok-link.ensures) c.in_ok-push.ensures.items
 
 pub read_links-returns : goal.read_links-returns
 read_links-returns t c = λ outcome read.
