@@ -195,10 +195,7 @@ fn parse_pairs<'a>(
     requires { AreTokens (tokens_of tokens.now) }
     ensures { ParsesPairs result (tokens_of tokens.now) }
 {
-    let (pairs, rest) = match take_pairs(alloc, tokens) {
-        Ok(taken) => taken,
-        Err(error) => return Err(error),
-    };
+    let (pairs, rest) = take_pairs(alloc, tokens)?;
     match only_name(rest) {
         Some(name) => Ok((pairs, name)),
         None => Err(ReadError::Syntax),
@@ -210,10 +207,7 @@ fn parse_inst<'a>(alloc: Global, tokens: &'a [Token<'a>]) -> Result<Rule<'a>, Re
     requires { AreTokens (tokens_of tokens.now) }
     ensures { ParsesArguments result RuleKind.Inst (tokens_of tokens.now) }
 {
-    let (pairs, name) = match parse_pairs(alloc, tokens) {
-        Ok(parsed) => parsed,
-        Err(error) => return Err(error),
-    };
+    let (pairs, name) = parse_pairs(alloc, tokens)?;
     match parse_term_pairs(alloc, &pairs) {
         Ok(pairs) => Ok(Rule::Inst(pairs, name)),
         Err(error) => Err(error),
@@ -225,10 +219,7 @@ fn parse_inst_type<'a>(alloc: Global, tokens: &'a [Token<'a>]) -> Result<Rule<'a
     requires { AreTokens (tokens_of tokens.now) }
     ensures { ParsesArguments result RuleKind.InstType (tokens_of tokens.now) }
 {
-    let (pairs, name) = match parse_pairs(alloc, tokens) {
-        Ok(parsed) => parsed,
-        Err(error) => return Err(error),
-    };
+    let (pairs, name) = parse_pairs(alloc, tokens)?;
     match parse_type_pairs(alloc, &pairs) {
         Ok(pairs) => Ok(Rule::InstType(pairs, name)),
         Err(error) => Err(error),

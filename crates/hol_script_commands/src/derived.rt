@@ -184,10 +184,7 @@ fn parse_witness<'a>(alloc: Global, tokens: &'a [Token<'a>]) -> Result<Derived<'
     requires { AreTokens (tokens_of tokens.now) }
     ensures { ParsesDerived result DerivedKind.Exists (tokens_of tokens.now) }
 {
-    let (formula, rest) = match parse_quote(alloc, tokens) {
-        Ok(parsed) => parsed,
-        Err(error) => return Err(error),
-    };
+    let (formula, rest) = parse_quote(alloc, tokens)?;
     match parse_quote_and_name(alloc, rest) {
         Ok((witness, name)) => Ok(Derived::Witness(formula, witness, name)),
         Err(error) => Err(error),
@@ -199,10 +196,7 @@ fn parse_choice<'a>(alloc: Global, tokens: &'a [Token<'a>]) -> Result<Derived<'a
     requires { AreTokens (tokens_of tokens.now) }
     ensures { ParsesDerived result DerivedKind.Choose (tokens_of tokens.now) }
 {
-    let (variable, rest) = match parse_quote(alloc, tokens) {
-        Ok(parsed) => parsed,
-        Err(error) => return Err(error),
-    };
+    let (variable, rest) = parse_quote(alloc, tokens)?;
     match only_two_names(rest) {
         Some((first, second)) => Ok(Derived::Choice(variable, first, second)),
         None => Err(ReadError::Syntax),

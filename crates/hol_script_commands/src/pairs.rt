@@ -78,10 +78,7 @@ pub(crate) fn take_pairs<'a>(
 fn parse_term_pair<'a>(alloc: Global, pair: &QuotedPair<'a>) -> Result<TermPair<'a>, ReadError>
     ensures { ParsesTermPair result (parts_of pair.now) }
 {
-    let new = match parse_term(alloc, pair.new) {
-        Ok(steps) => steps,
-        Err(error) => return Err(error),
-    };
+    let new = parse_term(alloc, pair.new)?;
     match parse_term(alloc, pair.old) {
         Ok(old) => Ok(TermPair { new, old }),
         Err(error) => Err(error),
@@ -97,10 +94,8 @@ pub(crate) fn parse_term_pairs<'a>(
 {
     let mut parsed = Vec::new(alloc);
     for pair in pairs {
-        match parse_term_pair(alloc, pair) {
-            Ok(terms) => parsed.push(terms)?,
-            Err(error) => return Err(error),
-        }
+        let terms = parse_term_pair(alloc, pair)?;
+        parsed.push(terms)?;
     }
     Ok(parsed)
 }
@@ -143,10 +138,8 @@ pub(crate) fn parse_type_pairs<'a>(
 {
     let mut parsed = Vec::new(alloc);
     for pair in pairs {
-        match parse_type_pair(alloc, pair) {
-            Ok(types) => parsed.push(types)?,
-            Err(error) => return Err(error),
-        }
+        let types = parse_type_pair(alloc, pair)?;
+        parsed.push(types)?;
     }
     Ok(parsed)
 }

@@ -64,10 +64,7 @@ pub fn parse_conversion_and_quote<'a>(
     requires { AreTokens (tokens_of tokens.now) }
     ensures { ParsesConversion result (tokens_of tokens.now) }
 {
-    let (conversion, count) = match conversion_of(alloc, tokens) {
-        Ok(read) => read,
-        Err(error) => return Err(error),
-    };
+    let (conversion, count) = conversion_of(alloc, tokens)?;
     match parse_only_quote(alloc, &tokens[count..]) {
         Ok(steps) => Ok((conversion, steps)),
         Err(error) => Err(error),

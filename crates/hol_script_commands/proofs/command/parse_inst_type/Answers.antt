@@ -1,4 +1,5 @@
 use Rattle.std.proofs.Common.{refl, sym, ap, ◌∙◌, subst, map, List, [], ◌∷◌, Err}
+use Rattle.std.proofs.lemmas.Result.{err_from_is_err_and}
 use Rattle.hol_model.specs.Texts.Token.{Name}
 use Rattle.hol_model_sessions.specs.Commands.{by_inst_type, list_tokens}
 use Rattle.hol_syntax_grammar.specs.Views.{tokens_of}
@@ -7,18 +8,21 @@ use Rattle.hol_script_commands.specs.Pairs.{parts_of, ParsesTypePairs}
 use Rattle.hol_script_commands.proofs.PairLemmas.{Parts, inst_type-refused, inst_type-unread}
 use Rattle.hol_script_commands.proofs.command.parse_inst_type.Goals as goal
 
-pub returns-in-Err : goal.returns-in-Err
-returns-in-Err c = inst_type-refused c.in-Err.error (tokens_of c.args.tokens.now) c.in-Err.ensures
+pub returns-in_err-pairs : goal.returns-in_err-pairs
+returns-in_err-pairs c =
+    let p = err_from_is_err_and c.from_residual.result c.from_residual.ensures.1 in
+    rw (p.1, p.2)
+    (inst_type-refused c.in_err-pairs.field-0.0 (tokens_of c.args.tokens.now) c.in_err-pairs.ensures)
 
-pub returns-in-Ok-parse_type_pairs : goal.returns-in-Ok-parse_type_pairs
-returns-in-Ok-parse_type_pairs c =
-    let list = c.in-Ok.ensures in
-    let read = c.in-Ok-parse_type_pairs.ensures in
+pub returns-in-Ok : goal.returns-in-Ok
+returns-in-Ok c =
+    let list = c.in_ok-pairs.ensures in
+    let read = c.in-Ok.ensures in
     let same = read.2 ∙ ap (map parts_of) c.deref.ensures.value in
-    (by_inst_type read.0 c.in-Ok.parsed.1.now, read.1, refl, list.1 ∙ ap (λ (pairs : List Parts). list_tokens pairs (Name c.in-Ok.parsed.1.now ∷ [])) (sym same), (read.3, refl))
+    (by_inst_type read.0 c.in_ok-pairs.name.now, read.1, refl, list.1 ∙ ap (λ (pairs : List Parts). list_tokens pairs (Name c.in_ok-pairs.name.now ∷ [])) (sym same), (read.3, refl))
 
 pub returns : goal.returns
 returns c =
-    let list = c.in-Ok.ensures in
-    inst_type-unread c.in-Err-parse_type_pairs.error (tokens_of c.args.tokens.now) (map parts_of c.in-Ok.parsed.0.items) c.in-Ok.parsed.1.now list.0 list.1
-    (subst (λ (pairs : List QuotedPair). ParsesTypePairs (Err c.in-Err-parse_type_pairs.error) (map parts_of pairs)) c.deref.ensures.value c.in-Err-parse_type_pairs.ensures)
+    let list = c.in_ok-pairs.ensures in
+    inst_type-unread c.in-Err.error (tokens_of c.args.tokens.now) (map parts_of c.in_ok-pairs.pairs.items) c.in_ok-pairs.name.now list.0 list.1
+    (subst (λ (pairs : List QuotedPair). ParsesTypePairs (Err c.in-Err.error) (map parts_of pairs)) c.deref.ensures.value c.in-Err.ensures)

@@ -1,10 +1,14 @@
+use Rattle.std.proofs.lemmas.Result.{err_from_is_err_and}
 use Rattle.hol_script_commands.proofs.PairLemmas.{more-terms, terms-refused}
 use Rattle.hol_script_commands.proofs.pairs.parse_term_pairs.Goals as goal
 
-pub returns-in-Err : goal.returns-in-Err
-returns-in-Err c = terms-refused c.in-Err.error c.args.pairs.now c.loop-pair.pair-index _ c.loop-pair-test.true c.in-Err.ensures
+pub returns-in_err-terms : goal.returns-in_err-terms
+returns-in_err-terms c =
+    let p = err_from_is_err_and c.from_residual.result c.from_residual.ensures.1 in
+    rw (p.1, p.2)
+    (terms-refused c.in_err-terms.field-0.0 c.args.pairs.now c.loop-pair.pair-index _ c.loop-pair-test.true c.in_err-terms.ensures)
 
 pub loop-pair-preserved : goal.loop-pair-preserved
 loop-pair-preserved c =
-    more-terms c.args.pairs.now c.loop-pair.pair-index _ c.push.new.self.items c.loop-pair.parsed.items c.in-Ok.terms
-    c.loop-pair-test.true c.in_ok-push-in-Ok.ensures.items c.loop-pair.invariant c.in-Ok.ensures
+    more-terms c.args.pairs.now c.loop-pair.pair-index _ c.push.new.self.items c.loop-pair.parsed.items c.in_ok-terms.terms
+    c.loop-pair-test.true c.in_ok-push.ensures.items c.loop-pair.invariant c.in_ok-terms.ensures
