@@ -31,18 +31,9 @@ impl Library {
         ensures empty { IfOk result (λ library. IsEmpty (stored_of library.store)) }
         ensures err { IfErr result (λ fault. fault ≡ Memory) }
     {
-        let mut recorder = match Recorder::new(alloc) {
-            Ok(recorder) => recorder,
-            Err(fault) => return Err(fault),
-        };
-        let logic = match prelude(&mut recorder, alloc) {
-            Ok(logic) => logic,
-            Err(fault) => return Err(fault),
-        };
-        let laws = match tautology_laws(&mut recorder, alloc, &logic) {
-            Ok(laws) => laws,
-            Err(fault) => return Err(fault),
-        };
+        let mut recorder = Recorder::new(alloc)?;
+        let logic = prelude(&mut recorder, alloc)?;
+        let laws = tautology_laws(&mut recorder, alloc, &logic)?;
         Ok(Library {
             recorder,
             logic,
