@@ -10,7 +10,7 @@ use hol_terms::Term;
 use std::alloc::{AllocError, AllocFailed, Global};
 
 /// Why a host's function gives no answer. It is made of each fault of the library, so `?` passes want of memory on as such.
-#[derive(Clone, Copy, Debug, PartialEq, Eq)]
+#[derive(Clone, Copy, PartialEq, Eq)]
 pub enum HostFail {
     /// The function fails. ORELSE, TRY and REPEAT catch this.
     Failed,
@@ -82,7 +82,7 @@ pub trait Refiners: Converters {
 }
 
 /// No functions.
-#[derive(Clone, Copy, Debug, PartialEq, Eq)]
+#[derive(Clone, Copy, PartialEq, Eq)]
 pub struct NoHost;
 
 impl Converters for NoHost {

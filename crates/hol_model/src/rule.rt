@@ -1,7 +1,7 @@
 // Rules, by the arguments that a script gives them.
 
 /// A rule for a term.
-#[derive(Clone, Copy, Debug, PartialEq, Eq)]
+#[derive(Clone, Copy, PartialEq, Eq)]
 pub enum TermRule {
     Refl,
     Beta,
@@ -9,7 +9,7 @@ pub enum TermRule {
 }
 
 /// A rule for two theorems.
-#[derive(Clone, Copy, Debug, PartialEq, Eq)]
+#[derive(Clone, Copy, PartialEq, Eq)]
 pub enum PairRule {
     Trans,
     MkComb,
@@ -18,14 +18,14 @@ pub enum PairRule {
 }
 
 /// An axiom.
-#[derive(Clone, Copy, Debug, PartialEq, Eq)]
+#[derive(Clone, Copy, PartialEq, Eq)]
 pub enum Axiom {
     Eta,
     Select,
 }
 
 /// A derived rule for a theorem.
-#[derive(Clone, Copy, Debug, PartialEq, Eq)]
+#[derive(Clone, Copy, PartialEq, Eq)]
 pub enum PremiseRule {
     Sym,
     EqtIntro,
@@ -38,7 +38,7 @@ pub enum PremiseRule {
 }
 
 /// A derived rule for two theorems.
-#[derive(Clone, Copy, Debug, PartialEq, Eq)]
+#[derive(Clone, Copy, PartialEq, Eq)]
 pub enum PremisesRule {
     ProveHyp,
     Conj,
@@ -46,7 +46,7 @@ pub enum PremisesRule {
 }
 
 /// A derived rule for a term and a theorem.
-#[derive(Clone, Copy, Debug, PartialEq, Eq)]
+#[derive(Clone, Copy, PartialEq, Eq)]
 pub enum TermPremiseRule {
     AddAssum,
     Disch,
@@ -59,7 +59,7 @@ pub enum TermPremiseRule {
 
 /// A derived rule, by the arguments that it takes: a term, a theorem, two theorems, a term and a theorem, three theorems,
 /// a formula, a witness and a theorem, or a variable and two theorems.
-#[derive(Clone, Copy, Debug, PartialEq, Eq)]
+#[derive(Clone, Copy, PartialEq, Eq)]
 pub enum DerivedKind {
     BetaConv,
     Premise(PremiseRule),
@@ -72,7 +72,7 @@ pub enum DerivedKind {
 
 /// A rule, by the arguments that it takes: a term, two theorems, a variable and a theorem, replacements and a theorem,
 /// none, or those of a derived rule.
-#[derive(Clone, Copy, Debug, PartialEq, Eq)]
+#[derive(Clone, Copy, PartialEq, Eq)]
 pub enum RuleKind {
     Term(TermRule),
     Pair(PairRule),

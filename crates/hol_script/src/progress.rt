@@ -17,7 +17,7 @@ use hol_script_manager::{Manager, Printed, Refused};
 use std::alloc::Global;
 
 /// How many commands were accepted and refused, and how many theorems were printed.
-#[derive(Clone, Copy, Debug, PartialEq, Eq)]
+#[derive(Clone, Copy, PartialEq, Eq)]
 pub struct Summary {
     pub accepted: u64,
     pub refused: u64,

@@ -22,7 +22,7 @@ pub enum Conv {
 }
 
 /// The conversionals that stand in front of one conversion (HOL Light's equal.ml).
-#[derive(Clone, Copy, Debug, PartialEq, Eq)]
+#[derive(Clone, Copy, PartialEq, Eq)]
 pub enum Prefix {
     /// REPEATC.
     Repeat,

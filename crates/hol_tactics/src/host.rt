@@ -102,7 +102,7 @@ pub fn named<F: Copy>(table: &[(&'static str, F)], name: &str) -> Option<F>
 }
 
 /// The refiners and conversions of this layer, under the names of `REFINERS` and `CONVERSIONS`.
-#[derive(Clone, Copy, Debug)]
+#[derive(Clone, Copy)]
 pub struct Tactics;
 
 impl Converters for Tactics {

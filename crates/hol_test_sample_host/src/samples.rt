@@ -112,7 +112,7 @@ impl Conversion {
 }
 
 /// The sample refiners and conversions, and those of tests, under the names of `REFINERS` and `CONVERSIONS`.
-#[derive(Clone, Copy, Debug)]
+#[derive(Clone, Copy)]
 pub struct Samples;
 
 impl Converters for Samples {

@@ -34,7 +34,7 @@ pub const REFINERS: [(&str, Refiner); 3] = [
 pub const CONVERSIONS: [(&str, Conversion); 1] = [("swap", Conversion::Swap)];
 
 /// The sample refiners and conversions, under the names of `REFINERS` and `CONVERSIONS`.
-#[derive(Clone, Copy, Debug)]
+#[derive(Clone, Copy)]
 pub struct Samples;
 
 impl Converters for Samples {
