@@ -29,7 +29,6 @@ use Rattle.hol_equal.proofs.DrawnEquality.{drawn-sym, drawn-add_assum, drawn-pro
 use Rattle.hol_bool.proofs.DrawnConnectives.{drawn-eqt_elim, drawn-conjunct1, drawn-conjunct2, drawn-disch, drawn-undisch, drawn-mp, drawn-disj1}
 use Rattle.hol_bool.proofs.DrawnConnectives.{drawn-disj2, drawn-disj_cases, drawn-contr, drawn-not_intro, drawn-not_elim}
 use Rattle.hol_just_replay.specs.Room.{IsNotLarge, are_roomy, HasRoom, FindsRoom}
-use Rattle.hol_just_replay.proofs.KernelRooms.{room-refused}
 use Rattle.hol_just_replay.proofs.RoomLemmas.{fits-unless, fits-given, fits-refused, stated-room}
 
 -- the terms of the premises, and of what the rule takes
@@ -181,26 +180,3 @@ pub room-not_elim : {journal : Journal} {logic : Logic} {a : Theorem} {result : 
 room-not_elim {journal} {logic} {a} {result} has legal premise answers =
     stated-room journal.theory rule_not_elim (a ∷ []) (terms_of_theorem a) (not_elim_outcome a) result (drawn-not_elim journal logic has legal a premise)
     (fits-given (dest_negation a.conclusion) BadShape (λ p. stated (images a) (implication p false_term)) (λ is. cc) (λ p. tt)) (λ room. one-roomy room) answers
-
-pub ruleset equality_rooms = (room-beta_conv, room-refused)
-
-pub ruleset connective_rooms = (
-  room-sym,
-  room-add_assum,
-  room-prove_hyp,
-  room-eqt_intro,
-  room-conj,
-  room-disch,
-  room-disj1,
-  room-disj2,
-  room-eqt_elim,
-  room-conjunct1,
-  room-conjunct2,
-  room-undisch,
-  room-mp,
-  room-disj_cases,
-  room-contr,
-  room-not_intro,
-  room-not_elim,
-  room-refused,
-)

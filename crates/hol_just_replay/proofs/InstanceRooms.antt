@@ -121,5 +121,3 @@ room-inst_type {theory} {theta} {a} {result} answers =
     passes none =
         required theory (instantiate_all theta) (instantiate_all theta (image true_term)) (may_replace_types theory theta)
         (inst_type-drawn theory theta (plain theory) (Ok (plain theory)) (ap (λ (o : Option Fault). or_too_large o true) none, plain-changed theory (instantiate_all theta) refl)).drawn
-
-pub ruleset instance_rooms = (room-inst, room-inst_type)

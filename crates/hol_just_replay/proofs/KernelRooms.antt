@@ -307,5 +307,3 @@ room-abs {theory} {x} {a} {result} legal premise answers =
 
 pub room-refused : {theory : Theory} {rule : InferenceRule} {premises : List Theorem} {result : Result Recorded Fault} → result ≡ Err InvalidStep → FindsRoom theory rule premises (theorem_in result)
 room-refused {theory} {rule} {premises} {result} is = rw is (record { finds = λ room. λ large. cc })
-
-pub ruleset kernel_rooms = (room-refl, room-assume, room-beta, room-trans, room-mk_comb, room-eq_mp, room-deduct_antisym, room-abs)

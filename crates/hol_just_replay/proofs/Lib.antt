@@ -6,6 +6,7 @@ pub mod KernelRooms
 pub mod DerivedRooms
 pub mod QuantifierRooms
 pub mod InstanceRooms
+pub mod Rooms
 pub mod Replaying
 pub mod AchievingLemmas
 pub mod SupposingLemmas

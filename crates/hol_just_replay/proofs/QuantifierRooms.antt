@@ -118,5 +118,3 @@ room-choose {journal} {logic} {v} {a} {b} {result} has legal premise answers =
         (stated (images a ++ others v b quantified) b.conclusion))))))
     go None = λ is. cc
     go (Some (name, ty)) = meet name ty (dest_exists a.conclusion)
-
-pub ruleset quantifier_rooms = (room-spec, room-gen, room-exists, room-choose)

@@ -1,11 +1,10 @@
 -- Replaying a justification line by line.
 use Rattle.std.proofs.Common.{◌≡◌, ℕ, zero, suc, ◌+◌, ◌<◌, List, [], ◌∷◌, ◌++◌, map, length, get_or, Bool, true, false, ◌&&◌, refl, sym, ap, ◌∙◌}
-use Rattle.std.proofs.Common.{subst, inl, inr, arith, Option, Some, None, Result, Ok, Err, length-append, drop, drop-cons, Bor}
-use Rattle.std.specs.Prelude.{slice_get, IfOk, IfErr, IfSome, nat_le, ◌⊎◌}
+use Rattle.std.proofs.Common.{subst, inl, inr, arith, Option, Some, None, Result, Ok, Err, length-append, drop, drop-cons}
+use Rattle.std.specs.Prelude.{slice_get, IfOk, IfErr, ◌⊎◌}
 use Rattle.std.proofs.lemmas.List.Folds.{list_all-append}
 use Rattle.std.specs.Option.{option_map}
 use Rattle.std.proofs.lemmas.Option.{slice_get-map, slice_get_read}
-use Rattle.std.proofs.lemmas.Bool.{leb-true}
 use Rattle.hol_model.specs.declared.fault.Fault.{Fault}
 use Rattle.hol_model.specs.declared.fault.Fault.TheVariants.{Memory, TooLarge, InvalidStep}
 use Rattle.hol_model.specs.Logic.Theory.{Theory}
@@ -20,14 +19,13 @@ use Rattle.hol_model.specs.Derived.DerivedRules.{is_roomy, terms_of_theorem}
 use Rattle.hol_model.proofs.Tests.{first_of_both, second_of_both}
 use Rattle.hol_laws_steps.proofs.Members.{list_all-fewer}
 use Rattle.hol_laws_steps.proofs.FewerHypotheses.{rules-monotone}
-use Rattle.hol_journal.specs.Journal.{Journal, Recorded, IsMade, theorem_in}
+use Rattle.hol_journal.specs.Journal.{Journal, Recorded, theorem_in}
 use Rattle.hol_journal.specs.Growth.{IsGrown}
 use Rattle.hol_journal.specs.Steps.{sequent_of_theorem}
 use Rattle.hol_journal.proofs.GrowthLemmas.{journals-grow}
-use Rattle.hol_prelude_derivations.specs.Derivations.{AreMade}
 use Rattle.hol_equal.specs.Sequents.{Shows, IsHeld, Continues}
 use Rattle.hol_equal.specs.Inferred.{IsDrawn, Infers}
-use Rattle.hol_just.specs.Flat.{FlatLine, cited, cited_parts, tree_of_line, trees_after, are_below, cites_below, cite_earlier}
+use Rattle.hol_just.specs.Flat.{FlatLine, cited, cited_parts, tree_of_line, trees_after, cites_below, cite_earlier}
 use Rattle.hol_just.specs.Lines.{flat_line, flat_lines}
 use Rattle.hol_just.specs.Steps.{flat_of}
 use Rattle.hol_just.specs.declared.just.Just.{Just}

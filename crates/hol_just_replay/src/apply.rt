@@ -9,10 +9,9 @@ ghost use Rattle.hol_just.specs.Rules.{rule_of};
 ghost use Rattle.hol_just_replay.specs.Room.{FindsRoom};
 ghost use Rattle.hol_just_replay.specs.Outcomes.{AnswersBy, AreLent, lent_theorems};
 
-use crate::primitive;
 use hol_bool::{
     conj, conjunct1, conjunct2, contr, disch, disj_cases, disj1, disj2, eqt_elim, eqt_intro, mp,
-    not_elim, not_intro, undisch,
+    not_elim, not_intro, primitive_rules_infer, undisch,
 };
 use hol_equal::{add_assum, beta_conv, conclusion_of, prove_hyp, sym};
 use hol_journal::{Rec, Recorder};
@@ -32,7 +31,7 @@ fn refuse(recorder: &mut Recorder) -> Result<Rec, Fault>
 }
 
 // A rule without premises. Here and below a term's type and a premise's conclusion are read for what is known of them.
-#[tactic(auto, using(crate::proofs::DerivedRooms::equality_rooms))]
+#[tactic(auto, using(crate::proofs::Rooms::rooms_of_none))]
 fn on_none(recorder: &mut Recorder, alloc: Global, logic: &Bool, rule: &Rule) -> Result<Rec, Fault>
     requires logic { HasLogic recorder.old logic.now }
     ensures continues { Continues recorder.old recorder.new result }
@@ -40,12 +39,23 @@ fn on_none(recorder: &mut Recorder, alloc: Global, logic: &Bool, rule: &Rule) ->
     ensures room { FindsRoom recorder.old.theory (rule_of rule.now) [] (theorem_in result) }
     ensures outcome { AnswersBy recorder.old.theory (rule_of rule.now) [] (theorem_in result) }
 {
+    recorder.theory_is_legal();
+    primitive_rules_infer();
     match rule {
-        Rule::Refl(t) => primitive::refl(recorder, alloc, t),
-        Rule::Beta(t) => primitive::beta(recorder, alloc, t),
-        Rule::Assume(p) => primitive::assume(recorder, alloc, p),
-        Rule::EtaAxiom => primitive::eta(recorder, alloc),
-        Rule::SelectAxiom => primitive::select(recorder, alloc),
+        Rule::Refl(t) => {
+            let _type = t.ty();
+            recorder.refl(alloc, t)
+        }
+        Rule::Beta(t) => {
+            let _type = t.ty();
+            recorder.beta(alloc, t)
+        }
+        Rule::Assume(p) => {
+            let _type = p.ty();
+            recorder.assume(alloc, p)
+        }
+        Rule::EtaAxiom => recorder.eta(alloc),
+        Rule::SelectAxiom => recorder.select(alloc),
         Rule::BetaConv(t) => {
             let _type = t.ty();
             beta_conv(recorder, alloc, t)
@@ -55,7 +65,7 @@ fn on_none(recorder: &mut Recorder, alloc: Global, logic: &Bool, rule: &Rule) ->
 }
 
 // A rule of one premise.
-#[tactic(auto, using(crate::proofs::DerivedRooms::connective_rooms, crate::proofs::QuantifierRooms::quantifier_rooms))]
+#[tactic(auto, using(crate::proofs::Rooms::rooms_of_one))]
 fn on_one(
     recorder: &mut Recorder,
     alloc: Global,
@@ -71,10 +81,11 @@ fn on_one(
     ensures outcome { AnswersBy recorder.old.theory (rule_of rule.now) (premise.now.theorem ∷ []) (theorem_in result) }
 {
     let _premise = conclusion_of(recorder, premise);
+    primitive_rules_infer();
     match rule {
-        Rule::Abs(x) => primitive::abs(recorder, alloc, x, premise),
-        Rule::Inst(theta) => primitive::inst(recorder, alloc, theta, premise),
-        Rule::InstType(theta) => primitive::inst_type(recorder, alloc, theta, premise),
+        Rule::Abs(x) => recorder.abs(alloc, x, premise),
+        Rule::Inst(theta) => recorder.inst(alloc, theta, premise),
+        Rule::InstType(theta) => recorder.inst_type(alloc, theta, premise),
         Rule::Sym => sym(recorder, alloc, premise),
         Rule::AddAssum(p) => {
             let _type = p.ty();
@@ -118,7 +129,7 @@ fn on_one(
 }
 
 // A rule of two premises.
-#[tactic(auto, using(crate::proofs::DerivedRooms::connective_rooms, crate::proofs::QuantifierRooms::quantifier_rooms))]
+#[tactic(auto, using(crate::proofs::Rooms::rooms_of_two))]
 fn on_two(
     recorder: &mut Recorder,
     alloc: Global,
@@ -136,11 +147,13 @@ fn on_two(
     ensures outcome { AnswersBy recorder.old.theory (rule_of rule.now) (first.now.theorem ∷ second.now.theorem ∷ []) (theorem_in result) }
 {
     let _first = conclusion_of(recorder, first);
+    let _second = conclusion_of(recorder, second);
+    primitive_rules_infer();
     match rule {
-        Rule::Trans => primitive::trans(recorder, alloc, first, second),
-        Rule::MkComb => primitive::mk_comb(recorder, alloc, first, second),
-        Rule::EqMp => primitive::eq_mp(recorder, alloc, first, second),
-        Rule::DeductAntisym => primitive::deduct_antisym(recorder, alloc, first, second),
+        Rule::Trans => recorder.trans(alloc, first, second),
+        Rule::MkComb => recorder.mk_comb(alloc, first, second),
+        Rule::EqMp => recorder.eq_mp(alloc, first, second),
+        Rule::DeductAntisym => recorder.deduct_antisym(alloc, first, second),
         Rule::ProveHyp => prove_hyp(recorder, alloc, first, second),
         Rule::Conj => conj(recorder, alloc, logic, first, second),
         Rule::Mp => mp(recorder, alloc, logic, first, second),
@@ -150,7 +163,7 @@ fn on_two(
 }
 
 // A rule of three premises.
-#[tactic(auto, using(crate::proofs::DerivedRooms::connective_rooms))]
+#[tactic(auto, using(crate::proofs::Rooms::rooms_of_three))]
 fn on_three(
     recorder: &mut Recorder,
     alloc: Global,

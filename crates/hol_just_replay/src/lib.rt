@@ -4,7 +4,6 @@
 mod accepting;
 mod achieving;
 mod apply;
-mod primitive;
 mod replays;
 mod supposing;
 

@@ -1,19 +1,9 @@
 -- A text is one command's.
-use Rattle.std.proofs.Common.{◌≡◌, ℕ, List, [], ◌∷◌, false, refl, sym, ap, ◌∙◌, Option, Some}
+use Rattle.std.proofs.Common.{◌≡◌, ℕ, List, [], ◌∷◌, refl, sym, ap, ◌∙◌, Option, Some}
 use Rattle.std.specs.Prelude.{codes}
-use Rattle.std.specs.Str.{bytes_eq}
-use Rattle.hol_model.specs.declared.rule.TermRule.TheVariants.{Refl, Beta, Assume}
-use Rattle.hol_model.specs.declared.rule.PairRule.TheVariants.{Trans, MkComb, EqMp, DeductAntisym}
-use Rattle.hol_model.specs.declared.rule.Axiom.TheVariants.{Eta, Select}
-use Rattle.hol_model.specs.declared.rule.PremiseRule.TheVariants.{Sym, EqtIntro, EqtElim, Conjunct1, Conjunct2, Undisch, NotIntro, NotElim}
-use Rattle.hol_model.specs.declared.rule.PremisesRule.TheVariants.{ProveHyp, Conj, Mp}
-use Rattle.hol_model.specs.declared.rule.TermPremiseRule.TheVariants.{AddAssum, Disch, Spec, Gen, Disj1, Disj2, Contr}
-use Rattle.hol_model.specs.declared.rule.DerivedKind.TheVariants.{BetaConv, Premise, Premises, TermPremise, DisjCases, Exists, Choose}
-use Rattle.hol_model.specs.declared.rule.RuleKind.{RuleKind}
-use Rattle.hol_model.specs.declared.rule.RuleKind.TheVariants.{Term, Pair, Abs, Inst, InstType, Axiom as OfAxiom, Derived}
 use Rattle.hol_model.specs.Texts.TypeGrammar.{type_tokens}
 use Rattle.hol_model.specs.Texts.TermGrammar.{TermTree}
-use Rattle.hol_model_sessions.specs.Commands.{kind_of, rule_word, rule_tokens, quote_tokens, IsQuotable}
+use Rattle.hol_model_sessions.specs.Commands.{quote_tokens, IsQuotable}
 use Rattle.hol_model_sessions.specs.ConversionGrammar.{unit_tokens}
 use Rattle.hol_model_sessions.specs.TacticGrammar.{tactic_tokens}
 use Rattle.hol_model_sessions.specs.CommandGrammar.{TheoremTree, by_rule, by_tautology, by_conversion, CommandTree, var_command, newtype_command, newconst_command, def_command, thm_command}
@@ -22,63 +12,21 @@ use Rattle.hol_model_sessions.specs.CommandGrammar.{IsCommandTree}
 use Rattle.hol_laws_sessions.specs.UniqueReadings.{QuotesAreUnambiguous, PartsAreUnambiguous, CommandsAreUnambiguous}
 use Rattle.hol_laws_sessions.proofs.UniqueConversions.{look_up_first, begins_otherwise, conversions-unambiguous}
 use Rattle.hol_laws_sessions.proofs.UniqueTactics.{tactics-unambiguous}
-use Rattle.hol_laws_sessions.proofs.UniqueRules.{rules-unambiguous}
+use Rattle.hol_laws_sessions.proofs.UniqueRules.{begins_no_rule, rules-unambiguous}
 
 -- ---- what `thm` asks for
-
--- no rule has the word of a tautology or of a conversion
-record IsOtherWord (word : List ℕ) : Type 0 where
-  no_tautology : bytes_eq (codes "TAUT") word ≡ false
-  no_conversion : bytes_eq (codes "CONV") word ≡ false
-
-other_word : (kind : RuleKind) → IsOtherWord (rule_word kind)
-other_word (Term Refl) = record { no_tautology = refl; no_conversion = refl }
-other_word (Term Beta) = record { no_tautology = refl; no_conversion = refl }
-other_word (Term Assume) = record { no_tautology = refl; no_conversion = refl }
-other_word (Pair Trans) = record { no_tautology = refl; no_conversion = refl }
-other_word (Pair MkComb) = record { no_tautology = refl; no_conversion = refl }
-other_word (Pair EqMp) = record { no_tautology = refl; no_conversion = refl }
-other_word (Pair DeductAntisym) = record { no_tautology = refl; no_conversion = refl }
-other_word Abs = record { no_tautology = refl; no_conversion = refl }
-other_word Inst = record { no_tautology = refl; no_conversion = refl }
-other_word InstType = record { no_tautology = refl; no_conversion = refl }
-other_word (OfAxiom Eta) = record { no_tautology = refl; no_conversion = refl }
-other_word (OfAxiom Select) = record { no_tautology = refl; no_conversion = refl }
-other_word (Derived BetaConv) = record { no_tautology = refl; no_conversion = refl }
-other_word (Derived (Premise Sym)) = record { no_tautology = refl; no_conversion = refl }
-other_word (Derived (Premise EqtIntro)) = record { no_tautology = refl; no_conversion = refl }
-other_word (Derived (Premise EqtElim)) = record { no_tautology = refl; no_conversion = refl }
-other_word (Derived (Premise Conjunct1)) = record { no_tautology = refl; no_conversion = refl }
-other_word (Derived (Premise Conjunct2)) = record { no_tautology = refl; no_conversion = refl }
-other_word (Derived (Premise Undisch)) = record { no_tautology = refl; no_conversion = refl }
-other_word (Derived (Premise NotIntro)) = record { no_tautology = refl; no_conversion = refl }
-other_word (Derived (Premise NotElim)) = record { no_tautology = refl; no_conversion = refl }
-other_word (Derived (Premises ProveHyp)) = record { no_tautology = refl; no_conversion = refl }
-other_word (Derived (Premises Conj)) = record { no_tautology = refl; no_conversion = refl }
-other_word (Derived (Premises Mp)) = record { no_tautology = refl; no_conversion = refl }
-other_word (Derived (TermPremise AddAssum)) = record { no_tautology = refl; no_conversion = refl }
-other_word (Derived (TermPremise Disch)) = record { no_tautology = refl; no_conversion = refl }
-other_word (Derived (TermPremise Spec)) = record { no_tautology = refl; no_conversion = refl }
-other_word (Derived (TermPremise Gen)) = record { no_tautology = refl; no_conversion = refl }
-other_word (Derived (TermPremise Disj1)) = record { no_tautology = refl; no_conversion = refl }
-other_word (Derived (TermPremise Disj2)) = record { no_tautology = refl; no_conversion = refl }
-other_word (Derived (TermPremise Contr)) = record { no_tautology = refl; no_conversion = refl }
-other_word (Derived DisjCases) = record { no_tautology = refl; no_conversion = refl }
-other_word (Derived Exists) = record { no_tautology = refl; no_conversion = refl }
-other_word (Derived Choose) = record { no_tautology = refl; no_conversion = refl }
 
 one_quote : QuotesAreUnambiguous → (a b : TermTree) → IsQuotable a → IsQuotable b → quote_tokens a [] ≡ quote_tokens b [] → a ≡ b
 one_quote quotes a b qa qb same = (quotes a b [] [] qa qb same).same
 
 theorem-same : PartsAreUnambiguous → (a b : TheoremTree) → IsTheoremTree a → IsTheoremTree b → theorem_tokens a ≡ theorem_tokens b → a ≡ b
 theorem-same parts (by_rule a) (by_rule b) ga gb same = ap by_rule (rules-unambiguous parts.quotes parts.type_quotes a b ga gb same)
-theorem-same parts (by_rule a) (by_tautology b) ga gb same = begins_otherwise (codes "TAUT") (rule_tokens a) (theorem_tokens (by_tautology b)) (other_word (kind_of a)).no_tautology same refl
-theorem-same parts (by_rule a) (by_conversion c b) ga gb same = begins_otherwise (codes "CONV") (rule_tokens a) (theorem_tokens (by_conversion c b)) (other_word (kind_of a)).no_conversion same refl
-theorem-same parts (by_tautology a) (by_rule b) ga gb same = begins_otherwise (codes "TAUT") (rule_tokens b) (theorem_tokens (by_tautology a)) (other_word (kind_of b)).no_tautology (sym same) refl
+theorem-same parts (by_rule a) (by_tautology b) ga gb same = begins_no_rule a (theorem_tokens (by_tautology b)) same refl
+theorem-same parts (by_rule a) (by_conversion c b) ga gb same = begins_no_rule a (theorem_tokens (by_conversion c b)) same refl
+theorem-same parts (by_tautology a) (by_rule b) ga gb same = begins_no_rule b (theorem_tokens (by_tautology a)) (sym same) refl
 theorem-same parts (by_tautology a) (by_tautology b) ga gb same = (let behind : quote_tokens a [] ≡ quote_tokens b [] = cc in ap by_tautology (one_quote parts.quotes a b ga gb behind))
 theorem-same parts (by_tautology a) (by_conversion c b) ga gb same = begins_otherwise (codes "CONV") (theorem_tokens (by_tautology a)) (theorem_tokens (by_conversion c b)) refl same refl
-theorem-same parts (by_conversion c a) (by_rule b) ga gb same = begins_otherwise (codes "CONV") (rule_tokens b) (theorem_tokens (by_conversion c a)) (other_word (kind_of b)).no_conversion
-    (sym same) refl
+theorem-same parts (by_conversion c a) (by_rule b) ga gb same = begins_no_rule b (theorem_tokens (by_conversion c a)) (sym same) refl
 theorem-same parts (by_conversion c a) (by_tautology b) ga gb same = begins_otherwise (codes "CONV") (theorem_tokens (by_tautology b)) (theorem_tokens (by_conversion c a)) refl (sym same) refl
 theorem-same parts (by_conversion c a) (by_conversion d b) ga gb same =
     let behind : unit_tokens c (quote_tokens a []) ≡ unit_tokens d (quote_tokens b []) = cc in

@@ -1,77 +1,98 @@
 -- The tokens are one rule's with its arguments.
-use Rattle.std.proofs.Common.{◌≡◌, ℕ, List, [], ◌∷◌, map, refl, sym, ap, ◌∙◌, Option, Some}
+use Rattle.std.proofs.Common.{◌≡◌, ℕ, List, [], ◌∷◌, length, map, refl, sym, ap, ◌∙◌, Option, None, Some}
+use Rattle.std.specs.Prelude.{codes}
 use Rattle.hol_model.specs.declared.symbol.Symbol.TheVariants.{Backquote, Comma}
-use Rattle.hol_model.specs.declared.rule.TermRule.TheVariants.{Refl, Beta, Assume}
-use Rattle.hol_model.specs.declared.rule.PairRule.TheVariants.{Trans, MkComb, EqMp, DeductAntisym}
-use Rattle.hol_model.specs.declared.rule.Axiom.TheVariants.{Eta, Select}
-use Rattle.hol_model.specs.declared.rule.PremiseRule.TheVariants.{Sym, EqtIntro, EqtElim, Conjunct1, Conjunct2, Undisch, NotIntro, NotElim}
-use Rattle.hol_model.specs.declared.rule.PremisesRule.TheVariants.{ProveHyp, Conj, Mp}
-use Rattle.hol_model.specs.declared.rule.TermPremiseRule.TheVariants.{AddAssum, Disch, Spec, Gen, Disj1, Disj2, Contr}
-use Rattle.hol_model.specs.declared.rule.DerivedKind.TheVariants.{BetaConv, Premise, Premises, TermPremise, DisjCases, Exists, Choose}
-use Rattle.hol_model.specs.declared.rule.RuleKind.{RuleKind}
-use Rattle.hol_model.specs.declared.rule.RuleKind.TheVariants.{Term, Pair, Abs, Inst, InstType, Axiom as OfAxiom, Derived}
 use Rattle.hol_model.specs.Texts.Token.{Token, Name, Mark}
 use Rattle.hol_model.specs.Texts.TypeGrammar.{TypeTree, type_tokens}
 use Rattle.hol_model.specs.Texts.TermGrammar.{TermTree, IsWithin}
-use Rattle.hol_model_sessions.specs.Commands.{DerivedTree, by_conversion, by_premise, by_premises, by_term_and_premise, by_cases, by_witness, by_choice, RuleTree, by_term, by_pair, by_abs}
-use Rattle.hol_model_sessions.specs.Commands.{by_inst, by_inst_type, by_axiom, by_derived, derived_kind_of, kind_of, rule_word, quoted, quote_tokens, further_tokens, first_tokens, term_pair}
-use Rattle.hol_model_sessions.specs.Commands.{type_pair, derived_tokens, argument_tokens, rule_tokens, IsQuotable, ArePairs, AreTypePairs, IsDerivedTree, IsRuleTree}
+use Rattle.hol_model_rules.specs.declared.rule_name.RuleName.{RuleName}
+use Rattle.hol_model_rules.specs.declared.rule_name.RuleName.TheVariants.{Refl, Trans, MkComb, Abs, Beta, Assume, EqMp, DeductAntisym, EtaAxiom, SelectAxiom, Sym, AddAssum, ProveHyp, EqtIntro, EqtElim}
+use Rattle.hol_model_rules.specs.declared.rule_name.RuleName.TheVariants.{BetaConv, Conj, Conjunct1, Conjunct2, Disch, Undisch, Mp, Spec, Gen, Disj1, Disj2, DisjCases, Contr, NotIntro, NotElim, Exists}
+use Rattle.hol_model_rules.specs.declared.rule_name.RuleName.TheVariants.{Choose}
+use Rattle.hol_model_rules.specs.RuleForms.{form_of}
+use Rattle.hol_model_sessions.specs.Commands.{RuleTree, by_name, by_inst, by_inst_type, quoted, quote_tokens, further_tokens, first_tokens, term_pair, type_pair, quotes_tokens, argument_tokens, rule_tokens}
+use Rattle.hol_model_sessions.specs.Commands.{IsQuotable, ArePairs, AreTypePairs, AreQuotable, IsRuleTree}
 use Rattle.hol_laws_sessions.specs.UniqueReadings.{SameParse, QuotesAreUnambiguous, TypeQuotesAreUnambiguous, RulesAreUnambiguous}
 use Rattle.hol_laws_sessions.proofs.UniqueConversions.{look_up, look_up_first}
 
 -- ---- words
 
-abbrev of_kind : RuleKind → List ℕ × RuleKind
-of_kind kind = (rule_word kind, kind)
+pub data Start : Type 0 where
+  name_start : RuleName → Start
+  inst_start : Start
+  inst_type_start : Start
 
-abbrev starts : List (List ℕ × RuleKind)
-starts = map of_kind (Term Refl ∷ Term Beta ∷ Term Assume ∷ Pair Trans ∷ Pair MkComb ∷ Pair EqMp ∷ Pair DeductAntisym ∷ Abs ∷ Inst ∷ InstType ∷ OfAxiom Eta ∷ OfAxiom Select ∷ Derived BetaConv
-    ∷ Derived (Premise Sym) ∷ Derived (Premise EqtIntro) ∷ Derived (Premise EqtElim) ∷ Derived (Premise Conjunct1) ∷ Derived (Premise Conjunct2) ∷ Derived (Premise Undisch) ∷ Derived
-    (Premise NotIntro)
-    ∷ Derived (Premise NotElim) ∷ Derived (Premises ProveHyp) ∷ Derived (Premises Conj) ∷ Derived (Premises Mp) ∷ Derived (TermPremise AddAssum) ∷ Derived (TermPremise Disch) ∷ Derived
-    (TermPremise Spec)
-    ∷ Derived (TermPremise Gen) ∷ Derived (TermPremise Disj1) ∷ Derived (TermPremise Disj2) ∷ Derived (TermPremise Contr) ∷ Derived DisjCases ∷ Derived Exists ∷ Derived Choose ∷ [])
+abbrev of_name : RuleName → List ℕ × Start
+of_name rule = ((form_of rule).word, name_start rule)
 
-kind-starts : (kind : RuleKind) → look_up starts (rule_word kind) ≡ Some kind
-kind-starts (Term Refl) = refl
-kind-starts (Term Beta) = refl
-kind-starts (Term Assume) = refl
-kind-starts (Pair Trans) = refl
-kind-starts (Pair MkComb) = refl
-kind-starts (Pair EqMp) = refl
-kind-starts (Pair DeductAntisym) = refl
-kind-starts Abs = refl
-kind-starts Inst = refl
-kind-starts InstType = refl
-kind-starts (OfAxiom Eta) = refl
-kind-starts (OfAxiom Select) = refl
-kind-starts (Derived BetaConv) = refl
-kind-starts (Derived (Premise Sym)) = refl
-kind-starts (Derived (Premise EqtIntro)) = refl
-kind-starts (Derived (Premise EqtElim)) = refl
-kind-starts (Derived (Premise Conjunct1)) = refl
-kind-starts (Derived (Premise Conjunct2)) = refl
-kind-starts (Derived (Premise Undisch)) = refl
-kind-starts (Derived (Premise NotIntro)) = refl
-kind-starts (Derived (Premise NotElim)) = refl
-kind-starts (Derived (Premises ProveHyp)) = refl
-kind-starts (Derived (Premises Conj)) = refl
-kind-starts (Derived (Premises Mp)) = refl
-kind-starts (Derived (TermPremise AddAssum)) = refl
-kind-starts (Derived (TermPremise Disch)) = refl
-kind-starts (Derived (TermPremise Spec)) = refl
-kind-starts (Derived (TermPremise Gen)) = refl
-kind-starts (Derived (TermPremise Disj1)) = refl
-kind-starts (Derived (TermPremise Disj2)) = refl
-kind-starts (Derived (TermPremise Contr)) = refl
-kind-starts (Derived DisjCases) = refl
-kind-starts (Derived Exists) = refl
-kind-starts (Derived Choose) = refl
+abbrev pub starts : List (List ℕ × Start)
+starts = (codes "INST", inst_start) ∷ (codes "INST_TYPE", inst_type_start) ∷ map of_name (Refl ∷ Trans ∷ MkComb ∷ Abs ∷ Beta ∷ Assume ∷ EqMp ∷ DeductAntisym ∷ EtaAxiom ∷ SelectAxiom ∷ Sym ∷ AddAssum
+    ∷ ProveHyp ∷ EqtIntro ∷ EqtElim ∷ BetaConv ∷ Conj ∷ Conjunct1 ∷ Conjunct2 ∷ Disch ∷ Undisch ∷ Mp ∷ Spec ∷ Gen ∷ Disj1 ∷ Disj2 ∷ DisjCases ∷ Contr ∷ NotIntro ∷ NotElim ∷ Exists ∷ Choose ∷ [])
 
-one_kind : (a b : RuleTree) → rule_tokens a ≡ rule_tokens b → kind_of a ≡ kind_of b
-one_kind a b same =
-    let whole : ◌≡◌ {A = Option RuleKind} (Some (kind_of a)) (Some (kind_of b)) = sym (kind-starts (kind_of a)) ∙ ap (look_up_first starts) same ∙ kind-starts (kind_of b) in
+abbrev start_of : RuleTree → Start
+start_of (by_name rule trees names) = name_start rule
+start_of (by_inst pairs a) = inst_start
+start_of (by_inst_type pairs a) = inst_type_start
+
+name-starts : (rule : RuleName) → look_up starts (form_of rule).word ≡ Some (name_start rule)
+name-starts Refl = refl
+name-starts Trans = refl
+name-starts MkComb = refl
+name-starts Abs = refl
+name-starts Beta = refl
+name-starts Assume = refl
+name-starts EqMp = refl
+name-starts DeductAntisym = refl
+name-starts EtaAxiom = refl
+name-starts SelectAxiom = refl
+name-starts Sym = refl
+name-starts AddAssum = refl
+name-starts ProveHyp = refl
+name-starts EqtIntro = refl
+name-starts EqtElim = refl
+name-starts BetaConv = refl
+name-starts Conj = refl
+name-starts Conjunct1 = refl
+name-starts Conjunct2 = refl
+name-starts Disch = refl
+name-starts Undisch = refl
+name-starts Mp = refl
+name-starts Spec = refl
+name-starts Gen = refl
+name-starts Disj1 = refl
+name-starts Disj2 = refl
+name-starts DisjCases = refl
+name-starts Contr = refl
+name-starts NotIntro = refl
+name-starts NotElim = refl
+name-starts Exists = refl
+name-starts Choose = refl
+
+rule-starts : (tree : RuleTree) → look_up_first starts (rule_tokens tree) ≡ Some (start_of tree)
+rule-starts (by_name rule trees names) = name-starts rule
+rule-starts (by_inst pairs a) = refl
+rule-starts (by_inst_type pairs a) = refl
+
+one_start : (a b : RuleTree) → rule_tokens a ≡ rule_tokens b → start_of a ≡ start_of b
+one_start a b same =
+    let whole : ◌≡◌ {A = Option Start} (Some (start_of a)) (Some (start_of b)) = sym (rule-starts a) ∙ ap (look_up_first starts) same ∙ rule-starts b in
     cc
+
+-- tokens that begin with another word are no rule's
+pub begins_no_rule : {A : Type 0} (tree : RuleTree) (tokens : List Token) → rule_tokens tree ≡ tokens → look_up_first starts tokens ≡ None → A
+begins_no_rule tree tokens same none = (let one : ◌≡◌ {A = Option Start} (Some (start_of tree)) None = sym (rule-starts tree) ∙ ap (look_up_first starts) same ∙ none in cc)
+
+-- ---- lists of names
+
+names-same : (a b : List (List ℕ)) → ◌≡◌ {A = List Token} (map Name a) (map Name b) → a ≡ b
+names-same [] [] same = refl
+names-same [] (b ∷ bs) same = cc
+names-same (a ∷ as') [] same = cc
+names-same (a ∷ as') (b ∷ bs) same =
+    let name : a ≡ b = cc in
+    let behind : ◌≡◌ {A = List Token} (map Name as') (map Name bs) = cc in
+    let others = names-same as' bs behind in
+    λ i. name i ∷ others i
 
 -- ---- lists of pairs
 
@@ -135,60 +156,40 @@ module _ (quotes : QuotesAreUnambiguous) (type_quotes : TypeQuotesAreUnambiguous
       let others = further_type_pairs-same as' bs r s ga.2 gb.2 first.rest in
       record { same = λ i. first.same i ∷ others.same i; rest = others.rest }
 
-  -- ---- derived rules
-
-  derived-same : (a b : DerivedTree) → IsDerivedTree a → IsDerivedTree b → derived_tokens a ≡ derived_tokens b → derived_kind_of a ≡ derived_kind_of b → a ≡ b
-  derived-same (by_conversion t) (by_conversion u) ga gb same kinds = ap by_conversion (quotes t u [] [] ga gb same).same
-  derived-same (by_premise r a) (by_premise q b) ga gb same kinds = (let rule : r ≡ q = cc in let name : a ≡ b = cc in λ i. by_premise (rule i) (name i))
-  derived-same (by_premises r a b) (by_premises q c d) ga gb same kinds = (let rule : r ≡ q = cc in let one : a ≡ c = cc in let two : b ≡ d = cc in λ i. by_premises (rule i) (one i) (two i))
-  derived-same (by_term_and_premise r t a) (by_term_and_premise q u b) ga gb same kinds =
-      let rule : r ≡ q = cc in
-      let term = quotes t u (Name a ∷ []) (Name b ∷ []) ga gb same in
-      let behind : ◌≡◌ {A = List Token} (Name a ∷ []) (Name b ∷ []) = term.rest in
-      let name : a ≡ b = cc in
-      λ i. by_term_and_premise (rule i) (term.same i) (name i)
-  derived-same (by_cases a b c) (by_cases d e f) ga gb same kinds = (let one : a ≡ d = cc in let two : b ≡ e = cc in let three : c ≡ f = cc in λ i. by_cases (one i) (two i) (three i))
-  derived-same (by_witness t u a) (by_witness v w b) ga gb same kinds =
-      let formula = quotes t v (quote_tokens u (Name a ∷ [])) (quote_tokens w (Name b ∷ [])) ga.0 gb.0 same in
-      let witness = quotes u w (Name a ∷ []) (Name b ∷ []) ga.1 gb.1 formula.rest in
-      let behind : ◌≡◌ {A = List Token} (Name a ∷ []) (Name b ∷ []) = witness.rest in
-      let name : a ≡ b = cc in
-      λ i. by_witness (formula.same i) (witness.same i) (name i)
-  derived-same (by_choice t a b) (by_choice u c d) ga gb same kinds =
-      let term = quotes t u (Name a ∷ Name b ∷ []) (Name c ∷ Name d ∷ []) ga gb same in
-      let behind : ◌≡◌ {A = List Token} (Name a ∷ Name b ∷ []) (Name c ∷ Name d ∷ []) = term.rest in
-      let one : a ≡ c = cc in
-      let two : b ≡ d = cc in
-      λ i. by_choice (term.same i) (one i) (two i)
-  derived-same a b ga gb same kinds = cc
-
   -- ---- rules
 
-  rule-same : (a b : RuleTree) → IsRuleTree a → IsRuleTree b → argument_tokens a ≡ argument_tokens b → kind_of a ≡ kind_of b → a ≡ b
-  rule-same (by_term r t) (by_term q u) ga gb same kinds = (let rule : r ≡ q = cc in let term = quotes t u [] [] ga gb same in λ i. by_term (rule i) (term.same i))
-  rule-same (by_pair r a b) (by_pair q c d) ga gb same kinds = (let rule : r ≡ q = cc in let one : a ≡ c = cc in let two : b ≡ d = cc in λ i. by_pair (rule i) (one i) (two i))
-  rule-same (by_abs t a) (by_abs u b) ga gb same kinds =
-      let term = quotes t u (Name a ∷ []) (Name b ∷ []) ga gb same in
-      let behind : ◌≡◌ {A = List Token} (Name a ∷ []) (Name b ∷ []) = term.rest in
-      let name : a ≡ b = cc in
-      λ i. by_abs (term.same i) (name i)
-  rule-same (by_inst ps a) (by_inst qs b) ga gb same kinds =
+  quotes-same : (a b : List TermTree) (r s : List Token) → AreQuotable a → AreQuotable b → length a ≡ length b → quotes_tokens a r ≡ quotes_tokens b s → SameParse a b r s
+  quotes-same [] [] r s ga gb lengths same = record { same = refl; rest = same }
+  quotes-same [] (b ∷ bs) r s ga gb lengths same = cc
+  quotes-same (a ∷ as') [] r s ga gb lengths same = cc
+  quotes-same (a ∷ as') (b ∷ bs) r s ga gb lengths same =
+      let first = quotes a b (quotes_tokens as' r) (quotes_tokens bs s) ga.0 gb.0 same in
+      let behind : length as' ≡ length bs = cc in
+      let others = quotes-same as' bs r s ga.1 gb.1 behind first.rest in
+      record { same = λ i. first.same i ∷ others.same i; rest = others.rest }
+
+  rule-same : (a b : RuleTree) → IsRuleTree a → IsRuleTree b → argument_tokens a ≡ argument_tokens b → start_of a ≡ start_of b → a ≡ b
+  rule-same (by_name rule trees names) (by_name other trees' names') ga gb same starts =
+      let one : rule ≡ other = cc in
+      let lengths : length trees ≡ length trees' = ga.0 ∙ ap (λ name. (form_of name).terms) one ∙ sym gb.0 in
+      let terms = quotes-same trees trees' (map Name names) (map Name names') ga.2 gb.2 lengths same in
+      let others = names-same names names' terms.rest in
+      λ i. by_name (one i) (terms.same i) (others i)
+  rule-same (by_inst ps a) (by_inst qs b) ga gb same starts =
       let behind : first_tokens (map term_pair ps) (Name a ∷ []) ≡ first_tokens (map term_pair qs) (Name b ∷ []) = cc in
       let pairs = pairs-same ps qs (Name a ∷ []) (Name b ∷ []) ga gb behind in
       let rest : ◌≡◌ {A = List Token} (Name a ∷ []) (Name b ∷ []) = pairs.rest in
       let name : a ≡ b = cc in
       λ i. by_inst (pairs.same i) (name i)
-  rule-same (by_inst_type ps a) (by_inst_type qs b) ga gb same kinds =
+  rule-same (by_inst_type ps a) (by_inst_type qs b) ga gb same starts =
       let behind : first_tokens (map type_pair ps) (Name a ∷ []) ≡ first_tokens (map type_pair qs) (Name b ∷ []) = cc in
       let pairs = type_pairs-same ps qs (Name a ∷ []) (Name b ∷ []) ga gb behind in
       let rest : ◌≡◌ {A = List Token} (Name a ∷ []) (Name b ∷ []) = pairs.rest in
       let name : a ≡ b = cc in
       λ i. by_inst_type (pairs.same i) (name i)
-  rule-same (by_axiom r) (by_axiom q) ga gb same kinds = (let rule : r ≡ q = cc in ap by_axiom rule)
-  rule-same (by_derived a) (by_derived b) ga gb same kinds = (let derived : derived_kind_of a ≡ derived_kind_of b = cc in ap by_derived (derived-same a b ga gb same derived))
-  rule-same a b ga gb same kinds = cc
+  rule-same a b ga gb same starts = cc
 
 pub rules-unambiguous : QuotesAreUnambiguous → TypeQuotesAreUnambiguous → RulesAreUnambiguous
 rules-unambiguous quotes type_quotes a b ga gb same =
     let behind : argument_tokens a ≡ argument_tokens b = cc in
-    rule-same quotes type_quotes a b ga gb behind (one_kind a b same)
+    rule-same quotes type_quotes a b ga gb behind (one_start a b same)

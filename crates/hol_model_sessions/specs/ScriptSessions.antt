@@ -1,5 +1,5 @@
 -- Which replies the commands of a script may have, and what a session is.
-use Rattle.std.specs.Prelude.{◌≡◌, ℕ, Bool, true, false, not, List, [], ◌∷◌, ◌++◌, map, Option, None, Some, IfSome, is_some, Result, Ok, Err}
+use Rattle.std.specs.Prelude.{◌≡◌, ℕ, Bool, not, List, [], ◌∷◌, ◌++◌, map, Option, None, Some, IfSome, is_some, Result, Ok, Err}
 use Rattle.hol_model.specs.declared.fault.Fault.{Fault}
 use Rattle.hol_model.specs.declared.fault.Fault.TheVariants.{Memory, BadName, UnknownName, Syntax, NameTaken, NoGoal, NotTautology}
 use Rattle.hol_model.specs.Terms.NamedTerm.{NamedTerm}

@@ -4,32 +4,23 @@ use Rattle.std.specs.Str.{bytes_eq}
 use Rattle.std.specs.List.{ends_with}
 use Rattle.hol_model.specs.declared.fault.Fault.{Fault}
 use Rattle.hol_model.specs.declared.fault.Fault.TheVariants.{UnknownName}
-use Rattle.hol_model.specs.declared.rule.PremiseRule.{PremiseRule}
-use Rattle.hol_model.specs.declared.rule.PremiseRule.TheVariants.{Sym, EqtIntro, EqtElim, Conjunct1, Conjunct2, Undisch, NotIntro, NotElim}
-use Rattle.hol_model.specs.declared.rule.PremisesRule.{PremisesRule}
-use Rattle.hol_model.specs.declared.rule.PremisesRule.TheVariants.{ProveHyp, Conj, Mp}
-use Rattle.hol_model.specs.declared.rule.TermPremiseRule.{TermPremiseRule}
-use Rattle.hol_model.specs.declared.rule.TermPremiseRule.TheVariants.{AddAssum, Disch, Spec, Gen, Disj1, Disj2, Contr}
+use Rattle.hol_model_rules.specs.declared.rule_name.RuleName.{RuleName}
 use Rattle.hol_model.specs.Terms.HolType.{HolType, type_variable}
 use Rattle.hol_model.specs.Terms.NamedTerm.{NamedTerm}
-use Rattle.hol_model.specs.Terms.Nameless.{Nameless, image}
 use Rattle.hol_model.specs.Logic.Theory.{Theory, generic_type}
 use Rattle.hol_model.specs.Logic.KnownTerm.{is_declared}
 use Rattle.hol_model.specs.Kernel.Outcome.{given}
 use Rattle.hol_model.specs.Kernel.Theorem.{Theorem}
-use Rattle.hol_model.specs.Kernel.Rules.{abs_outcome, define_outcome, new_const_outcome}
+use Rattle.hol_model.specs.Kernel.Rules.{define_outcome, new_const_outcome}
 use Rattle.hol_model.specs.Kernel.Instantiation.{inst_refusal, IsInst, inst_type_refusal, IsInstType}
 use Rattle.hol_model.specs.Logic.Logic.{logical_definitions}
 use Rattle.hol_model.specs.Derived.Prelude.{stored_theorems}
-use Rattle.hol_model.specs.Kernel.RuleOutcomes.{term_rule_outcome, pair_rule_outcome, axiom_theorem}
-use Rattle.hol_model.specs.Derived.DerivedRules.{Stated, AnswersStated, terms_of_theorem, sym_outcome, add_assum_outcome, prove_hyp_outcome, beta_conv_outcome, eqt_intro_outcome}
-use Rattle.hol_model.specs.Derived.DerivedRules.{eqt_elim_outcome, conj_outcome, conjunct1_outcome, conjunct2_outcome, disch_outcome, undisch_outcome, mp_outcome, spec_outcome, gen_outcome}
-use Rattle.hol_model.specs.Derived.DerivedRules.{exists_outcome, choose_outcome, disj1_outcome, disj2_outcome, disj_cases_outcome, contr_outcome, not_intro_outcome, not_elim_outcome}
+use Rattle.hol_model.specs.Derived.InferenceRules.{InferenceRule}
 use Rattle.hol_model.specs.Texts.TypeGrammar.{TypeTree}
 use Rattle.hol_model.specs.Texts.TermGrammar.{TermTree}
 use Rattle.hol_model.specs.Texts.Reading.{Scope, type_meaning, meaning, ◌>>=◌}
-use Rattle.hol_model_sessions.specs.Commands.{DerivedTree, by_conversion, by_premise, by_premises, by_term_and_premise, by_cases, by_witness, by_choice, RuleTree, by_term, by_pair, by_abs}
-use Rattle.hol_model_sessions.specs.Commands.{by_inst, by_inst_type, by_axiom, by_derived}
+use Rattle.hol_model_sessions.specs.Commands.{RuleTree, by_name, by_inst, by_inst_type}
+use Rattle.hol_model_rules.specs.RuleOutcomes.{rule_with, IsOutcome}
 
 -- what a session keeps: the entries of its theory, the declared variables and the stored theorems
 pub record State : Type 0 where
@@ -64,10 +55,6 @@ over_theory state theory = record state { theory = theory }
 
 -- ---- rules
 
--- the stored theorem of a name, and what follows with it
-abbrev pub stored : State → List ℕ → (Theorem → Result Theorem Fault) → Result Theorem Fault
-stored state name next = given (state.theorems name) UnknownName next
-
 -- the replacement that a pair of INST is
 abbrev pub replacement : Scope → TermTree × TermTree → Result (NamedTerm × NamedTerm) Fault
 replacement scope pair = meaning scope [] pair.0 >>= λ new. meaning scope [] pair.1 >>= λ old. Ok (new, old)
@@ -95,91 +82,31 @@ abbrev pub IsAnswerFor : {A : Type 0} → (A → Theorem → Option Fault) → (
 IsAnswerFor refusal fact (Ok read) answer = IsSettled (refusal read.0 read.1) (fact read.0 read.1) answer
 IsAnswerFor refusal fact (Err fault) answer = answer ≡ Err fault
 
--- ---- derived rules
-
-abbrev pub premise_outcome : PremiseRule → Theorem → Result Stated Fault
-premise_outcome Sym = sym_outcome
-premise_outcome EqtIntro = eqt_intro_outcome
-premise_outcome EqtElim = eqt_elim_outcome
-premise_outcome Conjunct1 = conjunct1_outcome
-premise_outcome Conjunct2 = conjunct2_outcome
-premise_outcome Undisch = undisch_outcome
-premise_outcome NotIntro = not_intro_outcome
-premise_outcome NotElim = not_elim_outcome
-
-abbrev pub premises_outcome : PremisesRule → Theorem → Theorem → Result Stated Fault
-premises_outcome ProveHyp = prove_hyp_outcome
-premises_outcome Conj = conj_outcome
-premises_outcome Mp = mp_outcome
-
-abbrev pub term_premise_outcome : TermPremiseRule → Theory → NamedTerm → Theorem → Result Stated Fault
-term_premise_outcome AddAssum = add_assum_outcome
-term_premise_outcome Disch = disch_outcome
-term_premise_outcome Spec = spec_outcome
-term_premise_outcome Gen = gen_outcome
-term_premise_outcome Disj1 = disj1_outcome
-term_premise_outcome Disj2 = disj2_outcome
-term_premise_outcome Contr = contr_outcome
-
 -- the stored theorem of a name
 abbrev pub theorem_named : State → List ℕ → Result Theorem Fault
 theorem_named state name = given (state.theorems name) UnknownName (λ theorem. Ok theorem)
 
--- the stored theorems of two names, and of three
-abbrev pub theorems_named : State → List ℕ → List ℕ → Result (Theorem × Theorem) Fault
-theorems_named state a b = with_stored (theorem_named state a) state b
+-- the terms of texts, and then the stored theorems of names
+abbrev pub arguments_in : State → List TermTree → List (List ℕ) → Result (List NamedTerm × List Theorem) Fault
+arguments_in state trees names = each (meaning (scope_in state) []) trees >>= λ terms. each (theorem_named state) names >>= λ theorems. Ok (terms, theorems)
 
-abbrev pub three_named : State → List ℕ → List ℕ → List ℕ → Result (Theorem × Theorem × Theorem) Fault
-three_named state a b c = theorem_named state a >>= λ first. theorems_named state b c >>= λ others. Ok (first, others.0, others.1)
+-- the rule with these terms answers on these theorems by its own outcome
+abbrev pub IsOutcomeWith : Theory → Option InferenceRule → List Theorem → Result Theorem Fault → Type 0
+IsOutcomeWith theory (Some rule) theorems answer = IsOutcome theory rule theorems answer
+IsOutcomeWith theory None theorems answer = ⊥
 
--- the terms of two texts, and the stored theorem of a name
-abbrev pub terms_and_theorem : State → TermTree → TermTree → List ℕ → Result (NamedTerm × NamedTerm × Theorem) Fault
-terms_and_theorem state tree other a =
-    meaning (scope_in state) [] tree >>= λ first. with_stored (meaning (scope_in state) [] other) state a >>= λ others. Ok (first, others.0, others.1)
-
--- the term of a text, and the stored theorems of two names
-abbrev pub term_and_theorems : State → TermTree → List ℕ → List ℕ → Result (NamedTerm × Theorem × Theorem) Fault
-term_and_theorems state tree a b = meaning (scope_in state) [] tree >>= λ term. theorems_named state a b >>= λ others. Ok (term, others.0, others.1)
-
--- the answer for what was read, by the terms of the arguments and what the rule states
-abbrev pub IsDerivedFor : {A : Type 0} → (A → List Nameless) → (A → Result Stated Fault) → Result A Fault → Result Theorem Fault → Type 0
-IsDerivedFor arguments outcome (Ok read) answer = AnswersStated answer (arguments read) (outcome read)
-IsDerivedFor arguments outcome (Err fault) answer = answer ≡ Err fault
-
--- what a derived rule may answer: its arguments from left to right, then the rule
-abbrev pub IsDerivedAnswer : State → DerivedTree → Result Theorem Fault → Type 0
-IsDerivedAnswer state (by_conversion tree) answer =
-    IsDerivedFor (λ term. image term ∷ []) (beta_conv_outcome state.theory) (meaning (scope_in state) [] tree) answer
-IsDerivedAnswer state (by_premise rule a) answer =
-    IsDerivedFor terms_of_theorem (premise_outcome rule) (theorem_named state a) answer
-IsDerivedAnswer state (by_premises rule a b) answer =
-    IsDerivedFor (λ read. terms_of_theorem read.0 ++ terms_of_theorem read.1) (λ read. premises_outcome rule read.0 read.1) (theorems_named state a b) answer
-IsDerivedAnswer state (by_term_and_premise rule tree a) answer =
-    IsDerivedFor (λ read. image read.0 ∷ terms_of_theorem read.1) (λ read. term_premise_outcome rule state.theory read.0 read.1)
-    (with_stored (meaning (scope_in state) [] tree) state a) answer
-IsDerivedAnswer state (by_cases a b c) answer =
-    IsDerivedFor (λ read. terms_of_theorem read.0 ++ terms_of_theorem read.1 ++ terms_of_theorem read.2) (λ read. disj_cases_outcome read.0 read.1 read.2)
-    (three_named state a b c) answer
-IsDerivedAnswer state (by_witness formula witness a) answer =
-    IsDerivedFor (λ read. image read.0 ∷ image read.1 ∷ terms_of_theorem read.2) (λ read. exists_outcome state.theory read.0 read.1 read.2)
-    (terms_and_theorem state formula witness a) answer
-IsDerivedAnswer state (by_choice variable a b) answer =
-    IsDerivedFor (λ read. image read.0 ∷ terms_of_theorem read.1 ++ terms_of_theorem read.2) (λ read. choose_outcome state.theory read.0 read.1 read.2)
-    (term_and_theorems state variable a b) answer
+-- the answer for what was read
+abbrev pub IsNamedAnswer : Theory → RuleName → Result (List NamedTerm × List Theorem) Fault → Result Theorem Fault → Type 0
+IsNamedAnswer theory rule (Ok read) answer = IsOutcomeWith theory (rule_with rule read.0) read.1 answer
+IsNamedAnswer theory rule (Err fault) answer = answer ≡ Err fault
 
 -- what a rule answers: its arguments from left to right, then the rule
 abbrev pub IsRuleAnswer : State → RuleTree → Result Theorem Fault → Type 0
-IsRuleAnswer state (by_term rule tree) answer = (meaning (scope_in state) [] tree >>= λ term. term_rule_outcome rule state.theory term) ≡ answer
-IsRuleAnswer state (by_pair rule a b) answer =
-    stored state a (λ first. stored state b (λ second. pair_rule_outcome rule state.theory first second)) ≡ answer
-IsRuleAnswer state (by_abs tree a) answer =
-    (meaning (scope_in state) [] tree >>= λ binder. stored state a (λ theorem. abs_outcome state.theory binder theorem)) ≡ answer
+IsRuleAnswer state (by_name rule trees names) answer = IsNamedAnswer state.theory rule (arguments_in state trees names) answer
 IsRuleAnswer state (by_inst pairs a) answer =
     IsAnswerFor (inst_refusal state.theory) (IsInst state.theory) (with_stored (each (replacement (scope_in state)) pairs) state a) answer
 IsRuleAnswer state (by_inst_type pairs a) answer =
     IsAnswerFor (inst_type_refusal state.theory) (IsInstType state.theory) (with_stored (each (type_replacement (scope_in state)) pairs) state a) answer
-IsRuleAnswer state (by_axiom rule) answer = Ok (axiom_theorem rule state.theory) ≡ answer
-IsRuleAnswer state (by_derived tree) answer = IsDerivedAnswer state tree answer
 
 -- ---- commands
 

@@ -1,8 +1,7 @@
 -- What `thm` asks for, and commands by their words and what follows them.
-use Rattle.std.proofs.Common.{◌≡◌, ◌≢◌, ℕ, ◌+◌, ◌-◌, ◌*◌, ◌<◌, ◌≤◌, suc, arith, drop-cons, List, [], ◌∷◌, length, get_or, take, drop}
-use Rattle.std.proofs.Common.{refl, sym, ◌∙◌, ap, subst, Option, None, Some, Result, Ok, Err, Vec, Global}
-use Rattle.std.specs.Prelude.{codes}
-use Rattle.std.specs.Option.{option_map}
+use Rattle.std.proofs.Common.{◌≡◌, ◌≢◌, ℕ, ◌+◌, ◌-◌, ◌*◌, ◌<◌, ◌≤◌, suc, arith, rules, drop-cons, List, [], ◌∷◌, length, get_or, take, drop}
+use Rattle.std.proofs.Common.{refl, sym, ◌∙◌, ap, subst, Some, Result, Ok, Err, Vec, Global}
+use Rattle.std.proofs.lemmas.Slice.Eq.{bytes_eq-Decides}
 use Rattle.std.proofs.lemmas.List.{take_rest}
 use Rattle.hol_model.specs.declared.limits.TheConstants.{EXPRESSION_NESTING_LIMIT}
 use Rattle.hol_model.specs.declared.symbol.Symbol.TheVariants.{Colon, Equal}
@@ -39,9 +38,8 @@ use Rattle.hol_script_commands.specs.declared.command.NamingKind.{NamingKind}
 use Rattle.hol_script_commands.specs.declared.command.NamingKind.TheVariants.{Thm, Show, Var, Def, NewType, NewConst, Save}
 use Rattle.hol_script_commands.specs.declared.goals.GoalKind.{GoalKind}
 use Rattle.hol_script_commands.specs.declared.goals.GoalKind.TheVariants.{Goal, Expand, Back, Print, Rotate}
-use Rattle.hol_script_commands.specs.Reading.{kind_of_command, command_word, naming_kind_of, goal_kind_of, command_kind_of, behind_tokens, name_in_command, body_tokens}
+use Rattle.hol_script_commands.specs.Reading.{kind_of_command, command_word, command_kind_of, behind_tokens, name_in_command, body_tokens}
 use Rattle.hol_script_commands.specs.Reading.{ParsesOnlyQuote, ParsesConversion, ParsesTyping, ParsesRule, ParsesAsked, ParsesBody, ParsesBehind, ParsesCommand}
-use Rattle.hol_script_commands.proofs.ReadingLemmas.{chosen, first-tried}
 
 -- ---- a conversion and a quoted term
 
@@ -66,61 +64,16 @@ rule-asked rule tokens (tree, grammatical, spelled, is_rule) = (by_rule tree, gr
 -- ---- words of commands
 
 pub command-kind : (kind : CommandKind) → command_kind_of (command_word kind) ≡ Some kind
-command-kind (Naming Thm) = refl
-command-kind (Naming Show) = refl
-command-kind (Naming Var) = refl
-command-kind (Naming Def) = refl
-command-kind (Naming NewType) = refl
-command-kind (Naming NewConst) = refl
-command-kind (Naming Save) = refl
-command-kind (OfGoals Goal) = refl
-command-kind (OfGoals Expand) = refl
-command-kind (OfGoals Back) = refl
-command-kind (OfGoals Print) = refl
-command-kind (OfGoals Rotate) = refl
-
-naming-word : (word : List ℕ) (kind : NamingKind) → naming_kind_of word ≡ Some kind → word ≡ command_word (Naming kind)
-naming-word word kind found =
-    chosen (λ (kind : NamingKind). command_word (Naming kind)) word (codes "thm") Thm kind _ refl found (λ found.
-    chosen (λ (kind : NamingKind). command_word (Naming kind)) word (codes "show") Show kind _ refl found (λ found.
-    chosen (λ (kind : NamingKind). command_word (Naming kind)) word (codes "var") Var kind _ refl found (λ found.
-    chosen (λ (kind : NamingKind). command_word (Naming kind)) word (codes "def") Def kind _ refl found (λ found.
-    chosen (λ (kind : NamingKind). command_word (Naming kind)) word (codes "newtype") NewType kind _ refl found (λ found.
-    chosen (λ (kind : NamingKind). command_word (Naming kind)) word (codes "newconst") NewConst kind _ refl found (λ found.
-    chosen (λ (kind : NamingKind). command_word (Naming kind)) word (codes "save") Save kind None refl found (λ found. cc)))))))
-
-goal-word : (word : List ℕ) (kind : GoalKind) → goal_kind_of word ≡ Some kind → word ≡ command_word (OfGoals kind)
-goal-word word kind found =
-    chosen (λ (kind : GoalKind). command_word (OfGoals kind)) word (codes "goal") Goal kind _ refl found (λ found.
-    chosen (λ (kind : GoalKind). command_word (OfGoals kind)) word (codes "e") Expand kind _ refl found (λ found.
-    chosen (λ (kind : GoalKind). command_word (OfGoals kind)) word (codes "b") Back kind _ refl found (λ found.
-    chosen (λ (kind : GoalKind). command_word (OfGoals kind)) word (codes "p") Print kind _ refl found (λ found.
-    chosen (λ (kind : GoalKind). command_word (OfGoals kind)) word (codes "r") Rotate kind None refl found (λ found. cc)))))
-
-last-word : (word : List ℕ) (kind : CommandKind) (known : Option GoalKind) → goal_kind_of word ≡ known → option_map OfGoals known ≡ Some kind → word ≡ command_word kind
-last-word word kind (Some here) known found = (let same : OfGoals here ≡ kind = cc in goal-word word here known ∙ ap command_word same)
-last-word word kind None known found = cc
+command-kind kind = search rules
 
 kind-command : (word : List ℕ) (kind : CommandKind) → command_kind_of word ≡ Some kind → word ≡ command_word kind
-kind-command word kind found =
-    first-tried command_word Naming word kind (naming_kind_of word) _ (naming-word word) found (λ found. last-word word kind (goal_kind_of word) refl found)
+kind-command word kind found = search (rules, found, bytes_eq-Decides)
 
 -- ---- commands
 
 -- a command is its word and what follows it
 command-parts : (tree : CommandTree) → command_tokens tree ≡ Name (command_word (kind_of_command tree)) ∷ behind_tokens tree
-command-parts (thm_command name theorem) = refl
-command-parts (show_command name) = refl
-command-parts (var_command name tree) = refl
-command-parts (def_command name tree) = refl
-command-parts (newtype_command name) = refl
-command-parts (newconst_command name tree) = refl
-command-parts (save_command name) = refl
-command-parts (goal_command tree) = refl
-command-parts (e_command tactic) = refl
-command-parts b_command = refl
-command-parts p_command = refl
-command-parts (r_command digits) = refl
+command-parts tree = search rules
 
 pub command-parsed : (result : Result Command ReadError) (kind : CommandKind) (tokens rest : List Token) (word : List ℕ) → tokens ≡ Name word ∷ rest
     → command_kind_of word ≡ Some kind → ParsesBehind result kind rest → ParsesCommand result tokens
@@ -143,18 +96,7 @@ same_naming : {a b : NamingKind} → Naming a ≡ Naming b → a ≡ b
 same_naming is = cc
 
 naming-parts : (tree : CommandTree) (kind : NamingKind) → kind_of_command tree ≡ Naming kind → behind_tokens tree ≡ Name (name_in_command tree) ∷ body_tokens tree
-naming-parts (thm_command name theorem) kind is = refl
-naming-parts (show_command name) kind is = refl
-naming-parts (var_command name tree) kind is = refl
-naming-parts (def_command name tree) kind is = refl
-naming-parts (newtype_command name) kind is = refl
-naming-parts (newconst_command name tree) kind is = refl
-naming-parts (save_command name) kind is = refl
-naming-parts (goal_command tree) kind is = cc
-naming-parts (e_command tactic) kind is = cc
-naming-parts b_command kind is = cc
-naming-parts p_command kind is = cc
-naming-parts (r_command digits) kind is = cc
+naming-parts tree kind is = search (rules, is)
 
 pub naming-parsed : (result : Result Command ReadError) (kind : NamingKind) (tokens body : List Token) (name : List ℕ) → tokens ≡ Name name ∷ body → ParsesBody result kind name body
     → ParsesBehind result (Naming kind) tokens

@@ -1,16 +1,16 @@
 -- Lists of replacements among tokens: what the pairs of a list are is determined.
 use Rattle.std.proofs.Common.{◌≡◌, ◌≢◌, ℕ, zero, suc, ◌+◌, ◌-◌, ◌<◌, ◌≤◌, arith, true, List, [], ◌∷◌, ◌++◌, length, get_or, take, drop, map, refl, sym, ◌∙◌, ap, subst, Err}
+use Rattle.std.specs.Prelude.{codes}
 use Rattle.std.proofs.lemmas.List.{drop-map, take_more, drop-drop, take_rest, map-append, length-map, length-append, append-nil, append_assoc}
 use Rattle.std.proofs.Math.Seq.{drop-append_seam}
 use Rattle.hol_model.specs.declared.symbol.Symbol.{Symbol}
 use Rattle.hol_model.specs.declared.symbol.Symbol.TheVariants.{Backquote, Comma, Semicolon, OpenBracket, CloseBracket}
-use Rattle.hol_model.specs.declared.rule.RuleKind.TheVariants.{Inst, InstType}
 use Rattle.hol_model.specs.Terms.Name.{is_type_variable_name}
 use Rattle.hol_model.specs.Texts.Token.{Token, Name, Mark}
 use Rattle.hol_model.specs.Texts.TypeGrammar.{TypeTree}
 use Rattle.hol_model.specs.Texts.TermGrammar.{TermTree, IsWithin}
-use Rattle.hol_model_sessions.specs.Commands.{RuleTree, by_term, by_pair, by_abs, by_inst, by_inst_type, by_axiom, by_derived, kind_of, quoted, pair_tokens, further_tokens}
-use Rattle.hol_model_sessions.specs.Commands.{first_tokens, list_tokens, term_pair, type_pair, argument_tokens, ArePairs, AreTypePairs, IsQuotable, IsRuleTree}
+use Rattle.hol_model_sessions.specs.Commands.{RuleTree, quoted, pair_tokens, further_tokens, first_tokens, list_tokens, term_pair, type_pair, argument_tokens}
+use Rattle.hol_model_sessions.specs.Commands.{ArePairs, AreTypePairs, IsQuotable, IsRuleTree}
 use Rattle.hol_syntax_grammar.specs.declared.token.Token.{Token as TokenHere}
 use Rattle.hol_syntax_grammar.specs.declared.type_reader.ReadError.{ReadError}
 use Rattle.hol_syntax_grammar.specs.declared.type_reader.ReadError.TheVariants.{Memory, Syntax}
@@ -23,7 +23,7 @@ use Rattle.hol_script_commands.specs.Reading.{HasNoQuote, ParsesArguments}
 use Rattle.hol_script_commands.specs.Pairs.{parts_of, IsUnquoted, AreUnquoted, TakesPairs, ParsesPairs, ParsesTermPair, ParsesTypePair, ParsesTermPairs, ParsesTypePairs}
 use Rattle.hol_script_commands.specs.Views.{IsTermPair, AreTermPairs, IsTypePair}
 use Rattle.hol_script_commands.specs.Views as views
-use Rattle.hol_script_commands.proofs.ReadingLemmas.{SamePieces, quoted_once, quotable-no_quote, type-no_quote}
+use Rattle.hol_script_commands.proofs.ReadingLemmas.{SamePieces, quoted_once, quotable-no_quote, type-no_quote, inst-tree, inst_type-tree}
 
 -- the tokens of the two parts of a pair
 abbrev pub Parts : Type 0
@@ -220,64 +220,38 @@ types-unquoted : (trees : List (TypeTree × List ℕ)) → AreTypePairs trees �
 types-unquoted [] all = tt
 types-unquoted (trees ∷ others) all = ((type-no_quote trees.0 [] tt, (refl, tt)), types-unquoted others all.2)
 
--- a refusal of the list is one of INST and of INST_TYPE
-pub inst-refused : (error : ReadError) (tokens : List Token) → ParsesPairs (Err error) tokens → ParsesArguments (Err error) Inst tokens
-inst-refused Memory tokens refused = tt
-inst-refused Syntax tokens refused = go
-  where
-    go : (tree : RuleTree) → IsRuleTree tree → kind_of tree ≡ Inst → tokens ≢ argument_tokens tree
-    go (by_inst trees a) grammatical kind same = refused (map term_pair trees) a (terms-unquoted trees grammatical) same
-    go (by_term named argument) grammatical kind same = cc
-    go (by_pair named a b) grammatical kind same = cc
-    go (by_abs argument a) grammatical kind same = cc
-    go (by_inst_type trees a) grammatical kind same = cc
-    go (by_axiom named) grammatical kind same = cc
-    go (by_derived derived) grammatical kind same = cc
+-- the tokens are no arguments of the rule
+abbrev IsNoArgument : List Token → RuleTree → Type 0
+IsNoArgument tokens tree = IsRuleTree tree → tokens ≢ argument_tokens tree
 
-pub inst_type-refused : (error : ReadError) (tokens : List Token) → ParsesPairs (Err error) tokens → ParsesArguments (Err error) InstType tokens
+-- a refusal of the list is one of INST and of INST_TYPE
+pub inst-refused : (error : ReadError) (tokens : List Token) → ParsesPairs (Err error) tokens → ParsesArguments (Err error) (codes "INST") tokens
+inst-refused Memory tokens refused = tt
+inst-refused Syntax tokens refused = λ tree grammatical worded.
+    inst-tree (IsNoArgument tokens) (λ trees a grammatical. refused (map term_pair trees) a (terms-unquoted trees grammatical)) tree worded grammatical
+
+pub inst_type-refused : (error : ReadError) (tokens : List Token) → ParsesPairs (Err error) tokens → ParsesArguments (Err error) (codes "INST_TYPE") tokens
 inst_type-refused Memory tokens refused = tt
-inst_type-refused Syntax tokens refused = go
-  where
-    go : (tree : RuleTree) → IsRuleTree tree → kind_of tree ≡ InstType → tokens ≢ argument_tokens tree
-    go (by_inst_type trees a) grammatical kind same = refused (map type_pair trees) a (types-unquoted trees grammatical) same
-    go (by_term named argument) grammatical kind same = cc
-    go (by_pair named a b) grammatical kind same = cc
-    go (by_abs argument a) grammatical kind same = cc
-    go (by_inst trees a) grammatical kind same = cc
-    go (by_axiom named) grammatical kind same = cc
-    go (by_derived derived) grammatical kind same = cc
+inst_type-refused Syntax tokens refused = λ tree grammatical worded.
+    inst_type-tree (IsNoArgument tokens) (λ trees a grammatical. refused (map type_pair trees) a (types-unquoted trees grammatical)) tree worded grammatical
 
 -- pairs that are not read are no arguments of them
 pub inst-unread : (error : ReadError) (tokens : List Token) (pairs : List Parts) (name : List ℕ) → AreUnquoted pairs → tokens ≡ list_tokens pairs (Name name ∷ []) → ParsesTermPairs (Err error) pairs
-    → ParsesArguments (Err error) Inst tokens
+    → ParsesArguments (Err error) (codes "INST") tokens
 inst-unread Memory tokens pairs name unquoted read refused = tt
-inst-unread Syntax tokens pairs name unquoted read refused = go
-  where
-    go : (tree : RuleTree) → IsRuleTree tree → kind_of tree ≡ Inst → tokens ≢ argument_tokens tree
-    go (by_inst trees a) grammatical kind same =
-        refused trees grammatical (sym (list_once tokens pairs (map term_pair trees) (Name name ∷ []) (Name a ∷ []) unquoted (terms-unquoted trees grammatical) read same).pairs)
-    go (by_term named argument) grammatical kind same = cc
-    go (by_pair named a b) grammatical kind same = cc
-    go (by_abs argument a) grammatical kind same = cc
-    go (by_inst_type trees a) grammatical kind same = cc
-    go (by_axiom named) grammatical kind same = cc
-    go (by_derived derived) grammatical kind same = cc
+inst-unread Syntax tokens pairs name unquoted read refused = λ tree grammatical worded.
+    inst-tree (IsNoArgument tokens) (λ trees a grammatical same.
+    refused trees grammatical (sym (list_once tokens pairs (map term_pair trees) (Name name ∷ []) (Name a ∷ []) unquoted (terms-unquoted trees grammatical) read same).pairs))
+    tree worded grammatical
 
 pub inst_type-unread : (error : ReadError) (tokens : List Token) (pairs : List Parts) (name : List ℕ) → AreUnquoted pairs → tokens ≡ list_tokens pairs (Name name ∷ [])
     → ParsesTypePairs (Err error) pairs
-    → ParsesArguments (Err error) InstType tokens
+    → ParsesArguments (Err error) (codes "INST_TYPE") tokens
 inst_type-unread Memory tokens pairs name unquoted read refused = tt
-inst_type-unread Syntax tokens pairs name unquoted read refused = go
-  where
-    go : (tree : RuleTree) → IsRuleTree tree → kind_of tree ≡ InstType → tokens ≢ argument_tokens tree
-    go (by_inst_type trees a) grammatical kind same =
-        refused trees grammatical (sym (list_once tokens pairs (map type_pair trees) (Name name ∷ []) (Name a ∷ []) unquoted (types-unquoted trees grammatical) read same).pairs)
-    go (by_term named argument) grammatical kind same = cc
-    go (by_pair named a b) grammatical kind same = cc
-    go (by_abs argument a) grammatical kind same = cc
-    go (by_inst trees a) grammatical kind same = cc
-    go (by_axiom named) grammatical kind same = cc
-    go (by_derived derived) grammatical kind same = cc
+inst_type-unread Syntax tokens pairs name unquoted read refused = λ tree grammatical worded.
+    inst_type-tree (IsNoArgument tokens) (λ trees a grammatical same.
+    refused trees grammatical (sym (list_once tokens pairs (map type_pair trees) (Name name ∷ []) (Name a ∷ []) unquoted (types-unquoted trees grammatical) read same).pairs))
+    tree worded grammatical
 
 -- ---- the loop over a list
 

@@ -1,38 +1,24 @@
 -- Names among tokens, where quoted terms end, and which words name rules.
 use Rattle.std.proofs.Common.{◌≡◌, ◌≢◌, ℕ, zero, suc, ◌+◌, ◌-◌, ◌<◌, ◌≤◌, arith, List, [], ◌∷◌, ◌++◌, length, get_or, take, drop, ◌==◌, eqb-true}
-use Rattle.std.proofs.Common.{Bool, true, false, ◌||◌, refl, sym, ◌∙◌, ap, subst, Option, None, Some, Result, Ok, Err, Bor}
-use Rattle.std.specs.Prelude.{codes, if◌then◌else◌}
-use Rattle.std.specs.Option.{option_map, option_or}
-use Rattle.std.specs.Str.{bytes_eq}
+use Rattle.std.proofs.Common.{rules, Bool, true, false, ◌||◌, refl, sym, ◌∙◌, ap, subst, Option, None, Some, Result, Ok, Err, Bor, Vec, Global, map}
+use Rattle.std.specs.Prelude.{codes, IsFalse, IsTrue, MatchOption}
+use Rattle.std.specs.Option.{option_or}
 use Rattle.std.proofs.lemmas.Slice.Eq.{bytes_eq-Decides}
-use Rattle.std.proofs.lemmas.List.{take_all, length-drop}
+use Rattle.std.proofs.lemmas.List.{take_all, length-drop, append_assoc}
 use borrow.Author.Count.{below_more}
 use Rattle.hol_model.specs.Terms.Name.{is_capital, is_small, continues_name, all_continue, is_identifier}
 use Rattle.hol_model.specs.declared.symbol.Symbol.{Symbol}
 use Rattle.hol_model.specs.declared.symbol.Symbol.TheVariants.{Backquote}
-use Rattle.hol_model.specs.declared.rule.TermRule.{TermRule}
-use Rattle.hol_model.specs.declared.rule.TermRule.TheVariants.{Refl, Beta, Assume}
-use Rattle.hol_model.specs.declared.rule.PairRule.{PairRule}
-use Rattle.hol_model.specs.declared.rule.PairRule.TheVariants.{Trans, MkComb, EqMp, DeductAntisym}
-use Rattle.hol_model.specs.declared.rule.Axiom.TheVariants.{Eta, Select}
-use Rattle.hol_model.specs.declared.rule.PremiseRule.{PremiseRule}
-use Rattle.hol_model.specs.declared.rule.PremiseRule.TheVariants.{Sym, EqtIntro, EqtElim, Conjunct1, Conjunct2, Undisch, NotIntro, NotElim}
-use Rattle.hol_model.specs.declared.rule.PremisesRule.{PremisesRule}
-use Rattle.hol_model.specs.declared.rule.PremisesRule.TheVariants.{ProveHyp, Conj, Mp}
-use Rattle.hol_model.specs.declared.rule.TermPremiseRule.{TermPremiseRule}
-use Rattle.hol_model.specs.declared.rule.TermPremiseRule.TheVariants.{AddAssum, Disch, Spec, Gen, Disj1, Disj2, Contr}
-use Rattle.hol_model.specs.declared.rule.DerivedKind.{DerivedKind}
-use Rattle.hol_model.specs.declared.rule.DerivedKind.TheVariants.{BetaConv, Premise, Premises, TermPremise, DisjCases, Exists as ExistsRule, Choose}
-use Rattle.hol_model.specs.declared.rule.RuleKind.{RuleKind}
-use Rattle.hol_model.specs.declared.rule.RuleKind.TheVariants.{Term, Pair, Abs, Inst, InstType, Axiom as OfAxiom, Derived}
+use Rattle.hol_model_rules.specs.RuleForms.{form_of}
+use Rattle.hol_model_rules.specs.declared.rule_name.RuleName.{RuleName}
 use Rattle.hol_model.specs.Texts.Token.{Token, Name, Number, Mark}
 use Rattle.hol_model.specs.Texts.Lexing.{Lexes, IsToken, IsIdentifier, Every, is_name_byte}
 use Rattle.hol_model.specs.Texts.TypeGrammar.{TypeTree, Named, Enclosed, Function, type_tokens}
-use Rattle.hol_model.specs.Texts.TermGrammar.{Bare, Variable, Constant, TermTree, Leaf, Apply, Not, Join, Bind, IsConstantName, IsTermTree, Infix, IffInfix, ImpliesInfix, OrInfix}
-use Rattle.hol_model.specs.Texts.TermGrammar.{AndInfix, EqualInfix, Binder, Lambda, ForAll, Exists, Choice, Lexeme, InfixPiece, BinderPiece, pieces, all_tokens, IsReadTerm}
+use Rattle.hol_model.specs.Texts.TermGrammar.{Bare, Variable, Constant, TermTree, Leaf, Apply, Not, Join, Bind, IsConstantName, IsTermTree, Infix}
+use Rattle.hol_model.specs.Texts.TermGrammar.{Binder, Lambda, ForAll, Exists, Choice, Lexeme, InfixPiece, BinderPiece, pieces, all_tokens, IsReadTerm}
 use Rattle.hol_model.specs.Texts.TermGrammar.{Enclosed as EnclosedTerm}
-use Rattle.hol_model_sessions.specs.Commands.{DerivedTree, by_conversion, by_premise, by_premises, by_term_and_premise, by_cases, by_witness, by_choice, derived_kind_of}
-use Rattle.hol_model_sessions.specs.Commands.{derived_word, derived_tokens, IsDerivedTree, kind_of, rule_word, quoted, quote_tokens, argument_tokens, IsQuotable}
+use Rattle.hol_model_sessions.specs.Commands.{RuleTree, by_name, by_inst, by_inst_type, rule_word, quoted, quote_tokens, quotes_tokens, argument_tokens, IsQuotable}
+use Rattle.hol_model_sessions.specs.Commands.{AreQuotable, IsRuleTree}
 use Rattle.hol_model.proofs.Tests.{both}
 use Rattle.hol_syntax_grammar.specs.declared.token.Token.{Token as TokenHere}
 use Rattle.hol_syntax_grammar.specs.declared.token.Token.TheVariants.{Name as NameHere}
@@ -40,9 +26,11 @@ use Rattle.hol_syntax_grammar.specs.Views.{token_of, tokens_of}
 use Rattle.hol_syntax_grammar.specs.declared.type_reader.ReadError.{ReadError}
 use Rattle.hol_syntax_grammar.specs.declared.type_reader.ReadError.TheVariants.{Memory, Syntax}
 use Rattle.hol_syntax_grammar.specs.TermStates.{Parses}
+use Rattle.hol_syntax_grammar.specs.declared.steps.TermStep.{TermStep}
 use Rattle.hol_tactic_grammar.specs.Tokens.{AreTokens}
-use Rattle.hol_script_commands.specs.Reading.{is_quote, HasNoQuote, premise_rule_of, premises_rule_of, term_premise_rule_of, single_rule_of, derived_kind_of_word, term_rule_of, pair_rule_of}
-use Rattle.hol_script_commands.specs.Reading.{kernel_rule_of, rule_kind_of, ParsesQuote, ParsesOnlyQuote, ParsesQuoteAndName, ParsesDerived, ParsesArguments, ParsesRule}
+use Rattle.hol_script_commands.specs.Reading.{is_quote, HasNoQuote, kernel_rule_of, equality_rule_of, connective_rule_of, quantifier_rule_of, rule_of_word, IsNameOf, TakesOnlyNames}
+use Rattle.hol_script_commands.specs.Reading.{ParsesQuote, TakesQuotes, ParsesOnlyQuote, ParsesArguments, ParsesRule}
+use Rattle.hol_script_commands.specs.Views.{IsTerm}
 use Rattle.hol_script_commands.specs.declared.command.Rule.{Rule}
 
 -- ---- tokens
@@ -61,11 +49,14 @@ pub identifier-test : (bytes : List ℕ) → IsIdentifier bytes → is_identifie
 identifier-test [] identifier = absurd identifier
 identifier-test (b ∷ bytes) identifier = both (is_capital b || is_small b) (all_continue bytes) identifier.0 (every-continues bytes identifier.1)
 
--- the name at the front of tokens passes the test of names
-pub name-front : (tokens : List TokenHere) (default : TokenHere) (bytes : Bor (List ℕ)) → 1 ≤ length tokens → get_or tokens 0 default ≡ NameHere bytes → AreTokens (tokens_of tokens)
-    → is_identifier bytes.now ≡ true
-name-front [] default bytes within is all = absurd (omega arith)
-name-front (token ∷ tokens) default bytes within is all = identifier-test bytes.now (subst (λ (x : TokenHere). IsToken (token_of x)) is all.0)
+-- the bytes of a name are one
+pub name-read : (result : Option (Bor (List ℕ))) (token : TokenHere) (bytes : Bor (List ℕ)) → token ≡ NameHere bytes → IsToken (token_of token)
+    → MatchOption result (IsFalse (is_identifier bytes.now)) (λ name. (name.now ≡ bytes.now) × IsTrue (is_identifier bytes.now)) → IsNameOf result (token_of token)
+name-read (Some name) token bytes is valid (same, passed) = ap token_of is ∙ ap Name (sym same)
+name-read None token bytes is valid refused =
+    let passed : is_identifier bytes.now ≡ true = identifier-test bytes.now (subst (λ (x : TokenHere). IsToken (token_of x)) is valid) in
+    let both : true ≡ false = sym passed ∙ refused in
+    λ name same. cc
 
 -- ---- quotes
 
@@ -81,11 +72,7 @@ constant-no_quote (Mark Backquote) named = absurd named
 constant-no_quote (Mark symbol) named = refl
 
 infix-no_quote : (operation : Infix) (rest : List Lexeme) → HasNoQuote (all_tokens rest) → HasNoQuote (all_tokens (InfixPiece operation ∷ rest))
-infix-no_quote IffInfix rest none = (refl, none)
-infix-no_quote ImpliesInfix rest none = (refl, none)
-infix-no_quote OrInfix rest none = (refl, none)
-infix-no_quote AndInfix rest none = (refl, none)
-infix-no_quote EqualInfix rest none = (refl, none)
+infix-no_quote operation rest none = search (rules, none)
 
 binder-no_quote : (binder : Binder) (name : List ℕ) (tree : TypeTree) (rest : List Lexeme) → HasNoQuote (all_tokens rest) → HasNoQuote (all_tokens (BinderPiece binder name tree ∷ rest))
 binder-no_quote Lambda name tree rest none = (refl, (refl, (refl, type-no_quote tree _ (refl, none))))
@@ -238,202 +225,153 @@ pub more-behind : (tokens : List Token) (rest : List TokenHere) (tree : TermTree
     → ParsesOnlyQuote (Err Syntax) tokens
 more-behind tokens rest tree quotable read more = λ other grammatical same. some-left rest more (same_rest tokens (tokens_of rest) [] tree other quotable grammatical read same)
 
--- nor is it a quoted term and a name, where what is behind it is no name alone
-pub no-name-behind : (tokens rest : List Token) (tree : TermTree) → IsQuotable tree → tokens ≡ quote_tokens tree rest → ((name : List ℕ) → rest ≢ Name name ∷ [])
-    → ParsesQuoteAndName (Err Syntax) tokens
-no-name-behind tokens rest tree quotable read none = λ other name grammatical same. none name (same_rest tokens rest (Name name ∷ []) tree other quotable grammatical read same)
+-- ---- quoted terms, one after another
 
--- ---- arguments of derived rules
+-- what follows them
+pub behind-quotes : (trees : List TermTree) (tokens rest : List Token) → tokens ≡ quotes_tokens trees rest → AreTokens tokens → AreTokens rest
+behind-quotes [] tokens rest same all = subst AreTokens same all
+behind-quotes (tree ∷ trees) tokens rest same all = behind-quotes trees (quotes_tokens trees rest) rest refl (behind-quote tokens (quotes_tokens trees rest) tree same all)
 
--- the tokens are no arguments of a derived rule of this kind
-abbrev IsNoDerived : DerivedKind → List Token → Type 0
-IsNoDerived BetaConv tokens = (tree : TermTree) → IsQuotable tree → tokens ≢ quote_tokens tree []
-IsNoDerived (Premise rule) tokens = (name : List ℕ) → tokens ≢ Name name ∷ []
-IsNoDerived (Premises rule) tokens = (first second : List ℕ) → tokens ≢ Name first ∷ Name second ∷ []
-IsNoDerived (TermPremise rule) tokens = (tree : TermTree) (name : List ℕ) → IsQuotable tree → tokens ≢ quote_tokens tree (Name name ∷ [])
-IsNoDerived DisjCases tokens = (theorem first second : List ℕ) → tokens ≢ Name theorem ∷ Name first ∷ Name second ∷ []
-IsNoDerived ExistsRule tokens =
-    (formula witness : TermTree) (name : List ℕ) → IsQuotable formula → IsQuotable witness → tokens ≢ quote_tokens formula (quote_tokens witness (Name name ∷ []))
-IsNoDerived Choose tokens = (tree : TermTree) (first second : List ℕ) → IsQuotable tree → tokens ≢ quote_tokens tree (Name first ∷ Name second ∷ [])
+-- where as many others stand, what follows is the same
+quotes-rest : (trees others : List TermTree) (r s : List Token) → AreQuotable trees → AreQuotable others → length trees ≡ length others → quotes_tokens trees r ≡ quotes_tokens others s → r ≡ s
+quotes-rest [] [] r s these those counted same = same
+quotes-rest [] (other ∷ others) r s these those counted same = absurd (omega arith)
+quotes-rest (tree ∷ trees) [] r s these those counted same = absurd (omega arith)
+quotes-rest (tree ∷ trees) (other ∷ others) r s these those counted same =
+    quotes-rest trees others r s these.1 those.1 (omega (arith, counted))
+    (same_rest (quotes_tokens (tree ∷ trees) r) (quotes_tokens trees r) (quotes_tokens others s) tree other these.0 those.0 refl same)
 
-pub derived-refused : (kind : DerivedKind) (tokens : List Token) → IsNoDerived kind tokens → ParsesDerived (Err Syntax) kind tokens
-derived-refused kind tokens none = λ tree grammatical same. go tree grammatical (subst (λ (k : DerivedKind). IsNoDerived k tokens) (sym same) none)
+-- a refusal of the first is one of all
+pub first-refused : (error : ReadError) (tokens : List Token) (count : ℕ) (old new : List (Vec TermStep Global)) → 0 < count → ParsesQuote (Err error) tokens
+    → TakesQuotes (Err error) count old new tokens
+first-refused Memory tokens count old new some refused = tt
+first-refused Syntax tokens count old new some refused = go
   where
-    go : (tree : DerivedTree) → IsDerivedTree tree → IsNoDerived (derived_kind_of tree) tokens → tokens ≢ derived_tokens tree
-    go (by_conversion tree) grammatical none same = none tree grammatical same
-    go (by_premise rule a) grammatical none same = none a same
-    go (by_premises rule a b) grammatical none same = none a b same
-    go (by_term_and_premise rule tree a) grammatical none same = none tree a grammatical same
-    go (by_cases a b c) grammatical none same = none a b c same
-    go (by_witness formula witness a) grammatical none same = none formula witness a grammatical.0 grammatical.1 same
-    go (by_choice tree a b) grammatical none same = none tree a b grammatical same
+    go : (trees : List TermTree) (rest : List Token) → length trees ≡ count → AreQuotable trees → tokens ≢ quotes_tokens trees rest
+    go [] rest counted quotable same = omega (arith, counted, some)
+    go (tree ∷ trees) rest counted quotable same = refused tree (quotes_tokens trees rest) quotable.0 same
 
--- a quoted term with no two names alone behind it
-pub no-two-names-behind : (tokens rest : List Token) (tree : TermTree) → IsQuotable tree → tokens ≡ quote_tokens tree rest
-    → ((first second : List ℕ) → rest ≢ Name first ∷ Name second ∷ []) → ParsesDerived (Err Syntax) Choose tokens
-no-two-names-behind tokens rest tree quotable read none = derived-refused Choose tokens (λ other first second grammatical same.
-    none first second (same_rest tokens rest (Name first ∷ Name second ∷ []) tree other quotable grammatical read same))
+-- the first is taken, and then the others
+pub first-taken : (result : Result (Bor (List TokenHere)) ReadError) (tokens rest : List Token) (steps : Vec TermStep Global) (count : ℕ) (old pushed new : List (Vec TermStep Global)) → 0 < count
+    → ((tree : TermTree) × IsQuotable tree × (tokens ≡ quote_tokens tree rest) × IsTerm steps tree) → pushed ≡ old ++ steps ∷ []
+    → TakesQuotes result (count - 1) pushed new rest → TakesQuotes result count old new tokens
+first-taken (Ok left) tokens rest steps count old pushed new some (tree, quotable, spelled, is) put (trees, terms, counted, all, others, are, appended) = (
+  tree ∷ trees,
+  steps ∷ terms,
+  omega (arith, counted, some),
+  (quotable, all),
+  spelled ∙ ap (quote_tokens tree) others,
+  (is, are),
+  appended ∙ ap (λ (list : List (Vec TermStep Global)). list ++ terms) put ∙ append_assoc old (steps ∷ []) terms,
+)
+first-taken (Err Memory) tokens rest steps count old pushed new some first put taken = tt
+first-taken (Err Syntax) tokens rest steps count old pushed new some (tree, quotable, spelled, is) put refused = go
+  where
+    go : (trees : List TermTree) (left : List Token) → length trees ≡ count → AreQuotable trees → tokens ≢ quotes_tokens trees left
+    go [] left counted all same = omega (arith, counted, some)
+    go (other ∷ trees) left counted all same =
+        refused trees left (omega (arith, counted)) all.1 (same_rest tokens rest (quotes_tokens trees left) tree other quotable all.0 spelled same)
 
--- a quoted formula with no quoted witness and name behind it
-pub no-witness-behind : (error : ReadError) (tokens rest : List Token) (tree : TermTree) → IsQuotable tree → tokens ≡ quote_tokens tree rest
-    → ParsesQuoteAndName (Err error) rest → ParsesDerived (Err error) ExistsRule tokens
-no-witness-behind Memory tokens rest tree quotable read refused = tt
-no-witness-behind Syntax tokens rest tree quotable read refused = derived-refused ExistsRule tokens (λ formula witness name grammatical other same.
-    refused witness name other (same_rest tokens rest (quote_tokens witness (Name name ∷ [])) tree formula quotable grammatical read same))
+-- ---- names
 
--- a refusal of the quoted term at the front is one of the arguments
-pub witness-unquoted : (error : ReadError) (tokens : List Token) → ParsesQuote (Err error) tokens → ParsesDerived (Err error) ExistsRule tokens
-witness-unquoted Memory tokens refused = tt
-witness-unquoted Syntax tokens refused = derived-refused ExistsRule tokens (λ formula witness name grammatical other. refused formula (quote_tokens witness (Name name ∷ [])) grammatical)
+pub token-at : (tokens : List TokenHere) (at : ℕ) (default : TokenHere) → at < length tokens → AreTokens (tokens_of tokens) → IsToken (token_of (get_or tokens at default))
+token-at [] at default within all = absurd (omega arith)
+token-at (first ∷ tokens) zero default within all = all.0
+token-at (first ∷ tokens) (suc at) default within all = token-at tokens at default (omega (arith, within)) all.1
 
-pub choice-unquoted : (error : ReadError) (tokens : List Token) → ParsesQuote (Err error) tokens → ParsesDerived (Err error) Choose tokens
-choice-unquoted Memory tokens refused = tt
-choice-unquoted Syntax tokens refused = derived-refused Choose tokens (λ tree first second grammatical. refused tree (Name first ∷ Name second ∷ []) grammatical)
+-- a token that is no name is none of names
+pub no-name-at : (tokens : List TokenHere) (at : ℕ) (default : TokenHere) → at < length tokens → IsNameOf None (token_of (get_or tokens at default)) → (names : List (List ℕ))
+    → tokens_of tokens ≢ map Name names
+no-name-at [] at default within none names same = absurd (omega arith)
+no-name-at (first ∷ tokens) at default within none [] same = cc
+no-name-at (first ∷ tokens) zero default within none (name ∷ names) same = none name (let here : token_of first ≡ Name name = cc in here)
+no-name-at (first ∷ tokens) (suc at) default within none (name ∷ names) same =
+    no-name-at tokens at default (omega (arith, within)) none names (let further : tokens_of tokens ≡ map Name names = cc in further)
+
+-- the names that names of the code are
+abbrev pub names_of : List (Bor (List ℕ)) → List Token
+names_of names = map Name (map (λ name. name.now) names)
 
 -- ---- words
 
-pub word-kind : (kind : RuleKind) → rule_kind_of (rule_word kind) ≡ Some kind
-word-kind (Term Refl) = refl
-word-kind (Term Beta) = refl
-word-kind (Term Assume) = refl
-word-kind (Pair Trans) = refl
-word-kind (Pair MkComb) = refl
-word-kind (Pair EqMp) = refl
-word-kind (Pair DeductAntisym) = refl
-word-kind Abs = refl
-word-kind Inst = refl
-word-kind InstType = refl
-word-kind (OfAxiom Eta) = refl
-word-kind (OfAxiom Select) = refl
-word-kind (Derived BetaConv) = refl
-word-kind (Derived (Premise Sym)) = refl
-word-kind (Derived (Premise EqtIntro)) = refl
-word-kind (Derived (Premise EqtElim)) = refl
-word-kind (Derived (Premise Conjunct1)) = refl
-word-kind (Derived (Premise Conjunct2)) = refl
-word-kind (Derived (Premise Undisch)) = refl
-word-kind (Derived (Premise NotIntro)) = refl
-word-kind (Derived (Premise NotElim)) = refl
-word-kind (Derived (Premises ProveHyp)) = refl
-word-kind (Derived (Premises Conj)) = refl
-word-kind (Derived (Premises Mp)) = refl
-word-kind (Derived (TermPremise AddAssum)) = refl
-word-kind (Derived (TermPremise Disch)) = refl
-word-kind (Derived (TermPremise Spec)) = refl
-word-kind (Derived (TermPremise Gen)) = refl
-word-kind (Derived (TermPremise Disj1)) = refl
-word-kind (Derived (TermPremise Disj2)) = refl
-word-kind (Derived (TermPremise Contr)) = refl
-word-kind (Derived DisjCases) = refl
-word-kind (Derived ExistsRule) = refl
-word-kind (Derived Choose) = refl
+abbrev word_of : RuleName → List ℕ
+word_of rule = (form_of rule).word
 
--- one test of a chain
-pub chosen : {Kind : Type 0} (spelling : Kind → List ℕ) (word name : List ℕ) (here kind : Kind) (others : Option Kind) → name ≡ spelling here
-    → (if bytes_eq word name then Some here else others) ≡ Some kind → (others ≡ Some kind → word ≡ spelling kind) → word ≡ spelling kind
-chosen {Kind = Kind} spelling word name here kind others named found later = go (bytes_eq word name) refl found
-  where
-    go : (test : Bool) → bytes_eq word name ≡ test → (if test then Some here else others) ≡ Some kind → word ≡ spelling kind
-    go true passed found = (let same : here ≡ kind = cc in (bytes_eq-Decides word name).0 passed ∙ named ∙ ap spelling same)
-    go false failed found = later found
+pub word-rule : (rule : RuleName) → rule_of_word (form_of rule).word ≡ Some rule
+word-rule rule = search rules
 
--- where some of the words of a list are tried first
-pub first-tried : {Named Kind : Type 0} (spelling : Kind → List ℕ) (wrap : Named → Kind) (word : List ℕ) (kind : Kind) (tried : Option Named) (others : Option Kind)
-    → ((here : Named) → tried ≡ Some here → word ≡ spelling (wrap here)) → option_or (option_map wrap tried) others ≡ Some kind → (others ≡ Some kind → word ≡ spelling kind) → word ≡ spelling kind
-first-tried spelling wrap word kind (Some here) others spells found later = (let same : wrap here ≡ kind = cc in spells here refl ∙ ap spelling same)
-first-tried spelling wrap word kind None others spells found later = later found
+-- where some words are tried first
+pub first-tried : {Kind : Type 0} (spelling : Kind → List ℕ) (word : List ℕ) (kind : Kind) (tried others : Option Kind) → ((here : Kind) → tried ≡ Some here → word ≡ spelling here)
+    → option_or tried others ≡ Some kind → (others ≡ Some kind → word ≡ spelling kind) → word ≡ spelling kind
+first-tried spelling word kind (Some here) others spells found later = (let same : here ≡ kind = cc in spells here refl ∙ ap spelling same)
+first-tried spelling word kind None others spells found later = later found
 
-premise-rule-word : (word : List ℕ) (kind : PremiseRule) → premise_rule_of word ≡ Some kind → word ≡ derived_word (Premise kind)
-premise-rule-word word kind found =
-    chosen (λ (rule : PremiseRule). derived_word (Premise rule)) word (codes "SYM") Sym kind _ refl found (λ found.
-    chosen (λ (rule : PremiseRule). derived_word (Premise rule)) word (codes "EQT_INTRO") EqtIntro kind _ refl found (λ found.
-    chosen (λ (rule : PremiseRule). derived_word (Premise rule)) word (codes "EQT_ELIM") EqtElim kind _ refl found (λ found.
-    chosen (λ (rule : PremiseRule). derived_word (Premise rule)) word (codes "CONJUNCT1") Conjunct1 kind _ refl found (λ found.
-    chosen (λ (rule : PremiseRule). derived_word (Premise rule)) word (codes "CONJUNCT2") Conjunct2 kind _ refl found (λ found.
-    chosen (λ (rule : PremiseRule). derived_word (Premise rule)) word (codes "UNDISCH") Undisch kind _ refl found (λ found.
-    chosen (λ (rule : PremiseRule). derived_word (Premise rule)) word (codes "NOT_INTRO") NotIntro kind _ refl found (λ found.
-    chosen (λ (rule : PremiseRule). derived_word (Premise rule)) word (codes "NOT_ELIM") NotElim kind None refl found (λ found. cc))))))))
+kernel-rule-word : (word : List ℕ) (rule : RuleName) → kernel_rule_of word ≡ Some rule → word ≡ (form_of rule).word
+kernel-rule-word word rule found = search (rules, found, bytes_eq-Decides)
 
-premises-rule-word : (word : List ℕ) (kind : PremisesRule) → premises_rule_of word ≡ Some kind → word ≡ derived_word (Premises kind)
-premises-rule-word word kind found =
-    chosen (λ (rule : PremisesRule). derived_word (Premises rule)) word (codes "PROVE_HYP") ProveHyp kind _ refl found (λ found.
-    chosen (λ (rule : PremisesRule). derived_word (Premises rule)) word (codes "CONJ") Conj kind _ refl found (λ found.
-    chosen (λ (rule : PremisesRule). derived_word (Premises rule)) word (codes "MP") Mp kind None refl found (λ found. cc)))
+equality-rule-word : (word : List ℕ) (rule : RuleName) → equality_rule_of word ≡ Some rule → word ≡ (form_of rule).word
+equality-rule-word word rule found = search (rules, found, bytes_eq-Decides)
 
-term-premise-rule-word : (word : List ℕ) (kind : TermPremiseRule) → term_premise_rule_of word ≡ Some kind → word ≡ derived_word (TermPremise kind)
-term-premise-rule-word word kind found =
-    chosen (λ (rule : TermPremiseRule). derived_word (TermPremise rule)) word (codes "ADD_ASSUM") AddAssum kind _ refl found (λ found.
-    chosen (λ (rule : TermPremiseRule). derived_word (TermPremise rule)) word (codes "DISCH") Disch kind _ refl found (λ found.
-    chosen (λ (rule : TermPremiseRule). derived_word (TermPremise rule)) word (codes "SPEC") Spec kind _ refl found (λ found.
-    chosen (λ (rule : TermPremiseRule). derived_word (TermPremise rule)) word (codes "GEN") Gen kind _ refl found (λ found.
-    chosen (λ (rule : TermPremiseRule). derived_word (TermPremise rule)) word (codes "DISJ1") Disj1 kind _ refl found (λ found.
-    chosen (λ (rule : TermPremiseRule). derived_word (TermPremise rule)) word (codes "DISJ2") Disj2 kind _ refl found (λ found.
-    chosen (λ (rule : TermPremiseRule). derived_word (TermPremise rule)) word (codes "CONTR") Contr kind None refl found (λ found. cc)))))))
+connective-rule-word : (word : List ℕ) (rule : RuleName) → connective_rule_of word ≡ Some rule → word ≡ (form_of rule).word
+connective-rule-word word rule found = search (rules, found, bytes_eq-Decides)
 
-single-rule-word : (word : List ℕ) (kind : DerivedKind) → single_rule_of word ≡ Some kind → word ≡ derived_word kind
-single-rule-word word kind found =
-    chosen derived_word word (codes "BETA_CONV") BetaConv kind _ refl found (λ found.
-    chosen derived_word word (codes "DISJ_CASES") DisjCases kind _ refl found (λ found.
-    chosen derived_word word (codes "EXISTS") ExistsRule kind _ refl found (λ found.
-    chosen derived_word word (codes "CHOOSE") Choose kind None refl found (λ found. cc))))
+quantifier-rule-word : (word : List ℕ) (rule : RuleName) → quantifier_rule_of word ≡ Some rule → word ≡ (form_of rule).word
+quantifier-rule-word word rule found = search (rules, found, bytes_eq-Decides)
 
-derived-kind-word : (word : List ℕ) (kind : DerivedKind) → derived_kind_of_word word ≡ Some kind → word ≡ derived_word kind
-derived-kind-word word kind found =
-    first-tried derived_word Premise word kind (premise_rule_of word) _ (premise-rule-word word) found (λ found.
-    first-tried derived_word Premises word kind (premises_rule_of word) _ (premises-rule-word word) found (λ found.
-    first-tried derived_word TermPremise word kind (term_premise_rule_of word) _ (term-premise-rule-word word) found (λ found. single-rule-word word kind found)))
-
-term-rule-word : (word : List ℕ) (kind : TermRule) → term_rule_of word ≡ Some kind → word ≡ rule_word (Term kind)
-term-rule-word word kind found =
-    chosen (λ (rule : TermRule). rule_word (Term rule)) word (codes "REFL") Refl kind _ refl found (λ found.
-    chosen (λ (rule : TermRule). rule_word (Term rule)) word (codes "BETA") Beta kind _ refl found (λ found.
-    chosen (λ (rule : TermRule). rule_word (Term rule)) word (codes "ASSUME") Assume kind None refl found (λ found. cc)))
-
-pair-rule-word : (word : List ℕ) (kind : PairRule) → pair_rule_of word ≡ Some kind → word ≡ rule_word (Pair kind)
-pair-rule-word word kind found =
-    chosen (λ (rule : PairRule). rule_word (Pair rule)) word (codes "TRANS") Trans kind _ refl found (λ found.
-    chosen (λ (rule : PairRule). rule_word (Pair rule)) word (codes "MK_COMB") MkComb kind _ refl found (λ found.
-    chosen (λ (rule : PairRule). rule_word (Pair rule)) word (codes "EQ_MP") EqMp kind _ refl found (λ found.
-    chosen (λ (rule : PairRule). rule_word (Pair rule)) word (codes "DEDUCT_ANTISYM_RULE") DeductAntisym kind None refl found (λ found. cc))))
-
-kernel-rule-word : (word : List ℕ) (kind : RuleKind) → kernel_rule_of word ≡ Some kind → word ≡ rule_word kind
-kernel-rule-word word kind found =
-    chosen rule_word word (codes "ABS") Abs kind _ refl found (λ found.
-    chosen rule_word word (codes "INST") Inst kind _ refl found (λ found.
-    chosen rule_word word (codes "INST_TYPE") InstType kind _ refl found (λ found.
-    chosen rule_word word (codes "ETA") (OfAxiom Eta) kind _ refl found (λ found.
-    chosen rule_word word (codes "SELECT") (OfAxiom Select) kind None refl found (λ found. cc)))))
-
--- the last words
-kernel-or-derived : (word : List ℕ) (kind : RuleKind) (kernel : Option RuleKind) → kernel_rule_of word ≡ kernel
-    → option_or kernel (option_map Derived (derived_kind_of_word word)) ≡ Some kind → word ≡ rule_word kind
-kernel-or-derived word kind (Some here) is found = kernel-rule-word word kind (is ∙ found)
-kernel-or-derived word kind None is found = go (derived_kind_of_word word) refl found
-  where
-    go : (known : Option DerivedKind) → derived_kind_of_word word ≡ known → option_map Derived known ≡ Some kind → word ≡ rule_word kind
-    go (Some derived) known found = (let same : Derived derived ≡ kind = cc in derived-kind-word word derived known ∙ ap rule_word same)
-    go None known found = cc
-
-pub kind-word : (word : List ℕ) (kind : RuleKind) → rule_kind_of word ≡ Some kind → word ≡ rule_word kind
-kind-word word kind found =
-    first-tried rule_word Term word kind (term_rule_of word) _ (term-rule-word word) found (λ found.
-    first-tried rule_word Pair word kind (pair_rule_of word) _ (pair-rule-word word) found (λ found. kernel-or-derived word kind (kernel_rule_of word) refl found))
+rule-word : (word : List ℕ) (rule : RuleName) → rule_of_word word ≡ Some rule → word ≡ (form_of rule).word
+rule-word word rule found =
+    first-tried word_of word rule (kernel_rule_of word) _ (kernel-rule-word word) found (λ found.
+    first-tried word_of word rule (equality_rule_of word) _ (equality-rule-word word) found (λ found.
+    first-tried word_of word rule (connective_rule_of word) _ (connective-rule-word word) found (quantifier-rule-word word rule)))
 
 -- ---- rules
 
-pub rule-parsed : (result : Result Rule ReadError) (kind : RuleKind) (tokens arguments : List Token) (word : List ℕ) → tokens ≡ Name word ∷ arguments → rule_kind_of word ≡ Some kind
-    → ParsesArguments result kind arguments → ParsesRule result tokens
-rule-parsed (Ok rule) kind tokens arguments word begins known parsed =
-    let spelled : word ≡ rule_word (kind_of parsed.0) = kind-word word kind known ∙ ap rule_word (sym parsed.2) in
-    (parsed.0, parsed.1, cc (begins, spelled, parsed.3), parsed.4)
-rule-parsed (Err Memory) kind tokens arguments word begins known parsed = tt
-rule-parsed (Err Syntax) kind tokens arguments word begins known refused = λ tree grammatical same.
-    let both : Name word ∷ arguments ≡ Name (rule_word (kind_of tree)) ∷ argument_tokens tree = sym begins ∙ same in
-    let spelled : word ≡ rule_word (kind_of tree) = cc in
+-- what holds of each rule of this name holds of each rule of its word
+named-tree : (fact : RuleTree → Type 0) (rule : RuleName) → ((trees : List TermTree) (names : List (List ℕ)) → fact (by_name rule trees names)) → (tree : RuleTree)
+    → rule_word tree ≡ (form_of rule).word → fact tree
+named-tree fact rule named (by_name other trees names) worded =
+    let found : Some other ≡ Some rule = sym (word-rule other) ∙ ap rule_of_word worded ∙ word-rule rule in
+    let same : rule ≡ other = cc in
+    subst (λ (it : RuleName). fact (by_name it trees names)) same (named trees names)
+named-tree fact rule named (by_inst pairs a) worded = absurd (search (rules, worded))
+named-tree fact rule named (by_inst_type pairs a) worded = absurd (search (rules, worded))
+
+-- and so of INST and of INST_TYPE
+pub inst-tree : (fact : RuleTree → Type 0) → ((pairs : List (TermTree × TermTree)) (a : List ℕ) → fact (by_inst pairs a)) → (tree : RuleTree) → rule_word tree ≡ codes "INST" → fact tree
+inst-tree fact inst (by_name rule trees names) worded = absurd (search (rules, worded))
+inst-tree fact inst (by_inst pairs a) worded = inst pairs a
+inst-tree fact inst (by_inst_type pairs a) worded = absurd (search (rules, worded))
+
+pub inst_type-tree : (fact : RuleTree → Type 0) → ((pairs : List (TypeTree × List ℕ)) (a : List ℕ) → fact (by_inst_type pairs a)) → (tree : RuleTree) → rule_word tree ≡ codes "INST_TYPE"
+    → fact tree
+inst_type-tree fact inst_type (by_name rule trees names) worded = absurd (search (rules, worded))
+inst_type-tree fact inst_type (by_inst pairs a) worded = absurd (search (rules, worded))
+inst_type-tree fact inst_type (by_inst_type pairs a) worded = inst_type pairs a
+
+-- a word that names a rule
+pub rule-worded : (result : Result Rule ReadError) (word : List ℕ) (rule : RuleName) (tokens : List Token) → rule_of_word word ≡ Some rule → ParsesArguments result (form_of rule).word tokens
+    → ParsesArguments result word tokens
+rule-worded result word rule tokens known parsed = subst (λ (spelled : List ℕ). ParsesArguments result spelled tokens) (sym (rule-word word rule known)) parsed
+
+-- a refusal of the names is one of the arguments
+pub names-refused : (error : ReadError) (rule : RuleName) (tokens rest : List Token) (trees : List TermTree) → length trees ≡ (form_of rule).terms → AreQuotable trees
+    → tokens ≡ quotes_tokens trees rest → TakesOnlyNames (Err error) (form_of rule).theorems rest → ParsesArguments (Err error) (form_of rule).word tokens
+names-refused Memory rule tokens rest trees counted quotable spelled refused = tt
+names-refused Syntax rule tokens rest trees counted quotable spelled refused = λ tree grammatical worded.
+    named-tree (λ (tree : RuleTree). IsRuleTree tree → tokens ≢ argument_tokens tree) rule
+    (λ others names grammatical same. refused names grammatical.1
+    (quotes-rest trees others rest (map Name names) quotable grammatical.2 (counted ∙ sym grammatical.0) (sym spelled ∙ same))) tree worded grammatical
+
+pub rule-parsed : (result : Result Rule ReadError) (tokens arguments : List Token) (word : List ℕ) → tokens ≡ Name word ∷ arguments → ParsesArguments result word arguments
+    → ParsesRule result tokens
+rule-parsed (Ok rule) tokens arguments word begins (tree, grammatical, worded, spelled, is_rule) =
+    (tree, grammatical, begins ∙ (λ i. Name (sym worded i) ∷ spelled i), is_rule)
+rule-parsed (Err Memory) tokens arguments word begins parsed = tt
+rule-parsed (Err Syntax) tokens arguments word begins refused = λ tree grammatical same.
+    let both : Name word ∷ arguments ≡ Name (rule_word tree) ∷ argument_tokens tree = sym begins ∙ same in
+    let worded : rule_word tree ≡ word = cc in
     let further : arguments ≡ argument_tokens tree = cc in
-    let found : Some (kind_of tree) ≡ Some kind = sym (word-kind (kind_of tree)) ∙ ap rule_kind_of (sym spelled) ∙ known in
-    let same_kind : kind_of tree ≡ kind = cc in
-    refused tree grammatical same_kind further
+    refused tree grammatical worded further
 
 -- what follows a mark
 pub behind-mark : (symbol : Symbol) (tokens rest : List Token) → tokens ≡ Mark symbol ∷ rest → AreTokens tokens → AreTokens rest

@@ -1,31 +1,18 @@
 -- What the readers of commands answer.
-use Rattle.std.specs.Prelude.{◌≡◌, ◌≢◌, ℕ, List, [], ◌∷◌, Bool, true, false, Option, None, Some, Result, Ok, Err, codes, if◌then◌else◌}
+use Rattle.std.specs.Prelude.{◌≡◌, ◌≢◌, ℕ, List, [], ◌∷◌, Bool, true, false, Option, None, Some, Result, Ok, Err, codes, if◌then◌else◌, map, length, ◌++◌}
 use Rattle.std.specs.Option.{option_map, option_or}
 use Rattle.std.specs.Str.{bytes_eq}
 use Rattle.std.proofs.Common.{Vec, Bor, Global}
 use Rattle.hol_model.specs.declared.symbol.Symbol.{Symbol}
 use Rattle.hol_model.specs.declared.symbol.Symbol.TheVariants.{Backquote, Colon, Equal}
-use Rattle.hol_model.specs.declared.rule.TermRule.{TermRule}
-use Rattle.hol_model.specs.declared.rule.TermRule.TheVariants.{Refl, Beta, Assume}
-use Rattle.hol_model.specs.declared.rule.PairRule.{PairRule}
-use Rattle.hol_model.specs.declared.rule.PairRule.TheVariants.{Trans, MkComb, EqMp, DeductAntisym}
-use Rattle.hol_model.specs.declared.rule.Axiom.TheVariants.{Eta, Select}
-use Rattle.hol_model.specs.declared.rule.PremiseRule.{PremiseRule}
-use Rattle.hol_model.specs.declared.rule.PremiseRule.TheVariants.{Sym, EqtIntro, EqtElim, Conjunct1, Conjunct2, Undisch, NotIntro, NotElim}
-use Rattle.hol_model.specs.declared.rule.PremisesRule.{PremisesRule}
-use Rattle.hol_model.specs.declared.rule.PremisesRule.TheVariants.{ProveHyp, Conj, Mp}
-use Rattle.hol_model.specs.declared.rule.TermPremiseRule.{TermPremiseRule}
-use Rattle.hol_model.specs.declared.rule.TermPremiseRule.TheVariants.{AddAssum, Disch, Spec, Gen, Disj1, Disj2, Contr}
-use Rattle.hol_model.specs.declared.rule.DerivedKind.{DerivedKind}
-use Rattle.hol_model.specs.declared.rule.DerivedKind.TheVariants.{BetaConv, Premise, Premises, TermPremise, DisjCases, Exists, Choose}
-use Rattle.hol_model.specs.declared.rule.RuleKind.{RuleKind}
-use Rattle.hol_model.specs.declared.rule.RuleKind.TheVariants.{Term, Pair, Abs, Inst, InstType, Axiom as OfAxiom, Derived}
+use Rattle.hol_model_rules.specs.declared.rule_name.RuleName.{RuleName}
+use Rattle.hol_model_rules.specs.declared.rule_name.RuleName.TheVariants.{Refl, Trans, MkComb, Abs, Beta, Assume, EqMp, DeductAntisym, EtaAxiom, SelectAxiom, Sym, AddAssum, ProveHyp, EqtIntro, EqtElim, BetaConv}
+use Rattle.hol_model_rules.specs.declared.rule_name.RuleName.TheVariants.{Conj, Conjunct1, Conjunct2, Disch, Undisch, Mp, Spec, Gen, Disj1, Disj2, DisjCases, Contr, NotIntro, NotElim, Exists, Choose}
 use Rattle.hol_model.specs.Texts.Token.{Token, Name, Number, Mark}
 use Rattle.hol_model.specs.Texts.Lexing.{numeral_value}
 use Rattle.hol_model.specs.Texts.TypeGrammar.{TypeTree, type_tokens, type_steps}
 use Rattle.hol_model.specs.Texts.TermGrammar.{TermTree, IsWithin}
-use Rattle.hol_model_sessions.specs.Commands.{DerivedTree, derived_kind_of, derived_tokens, IsDerivedTree, RuleTree, kind_of, quoted, quote_tokens, argument_tokens, rule_tokens, IsQuotable}
-use Rattle.hol_model_sessions.specs.Commands.{IsRuleTree}
+use Rattle.hol_model_sessions.specs.Commands.{RuleTree, rule_word, quoted, quote_tokens, quotes_tokens, argument_tokens, rule_tokens, IsQuotable, AreQuotable, IsRuleTree}
 use Rattle.hol_model_sessions.specs.CommandGrammar.{TheoremTree, by_tautology, by_conversion, theorem_tokens, IsTheoremTree, CommandTree, IsCommandTree, IsReadCommand}
 use Rattle.hol_model_sessions.specs.CommandGrammar.{var_command, newtype_command, newconst_command, def_command, thm_command}
 use Rattle.hol_model_sessions.specs.CommandGrammar.{show_command, goal_command, e_command, b_command, p_command, r_command}
@@ -43,7 +30,6 @@ use Rattle.hol_syntax_grammar.specs.Steps.{flat_steps_of}
 use Rattle.hol_syntax_grammar.specs.TermSteps.{term_steps, flat_steps}
 use Rattle.hol_tactic_exprs.specs.declared.conv.Conv.{Conv}
 use Rattle.hol_tactic_exprs.specs.Expressions.{conversion_of}
-use Rattle.hol_script_commands.specs.declared.derived.Derived.{Derived as OfDerived}
 use Rattle.hol_script_commands.specs.declared.command.Rule.{Rule}
 use Rattle.hol_script_commands.specs.declared.command.Asked.{Asked}
 use Rattle.hol_script_commands.specs.declared.command.Command.{Command}
@@ -53,7 +39,11 @@ use Rattle.hol_script_commands.specs.declared.command.NamingKind.{NamingKind}
 use Rattle.hol_script_commands.specs.declared.command.NamingKind.TheVariants.{Thm, Show, Var, Def, NewType, NewConst, Save}
 use Rattle.hol_script_commands.specs.declared.goals.GoalKind.{GoalKind}
 use Rattle.hol_script_commands.specs.declared.goals.GoalKind.TheVariants.{Goal, Expand, Back, Print, Rotate}
-use Rattle.hol_script_commands.specs.Views.{IsDerived, IsRule, IsAsked, IsCommand}
+use Rattle.hol_script_commands.specs.Views.{AreTerms, IsRule, IsAsked, IsCommand}
+
+abbrev pub IsNameOf : Option (Bor (List ℕ)) → Token → Type 0
+IsNameOf None token = (name : List ℕ) → token ≢ Name name
+IsNameOf (Some x) token = token ≡ Name x.now
 
 abbrev pub TakesName : Option (Bor (List ℕ) × Bor (List TokenHere)) → List Token → Type 0
 TakesName None tokens = (name : List ℕ) (rest : List Token) → tokens ≢ Name name ∷ rest
@@ -63,9 +53,11 @@ abbrev pub TakesOnlyName : Option (Bor (List ℕ)) → List Token → Type 0
 TakesOnlyName None tokens = (name : List ℕ) → tokens ≢ Name name ∷ []
 TakesOnlyName (Some x) tokens = tokens ≡ Name x.now ∷ []
 
-abbrev pub TakesOnlyTwoNames : Option (Bor (List ℕ) × Bor (List ℕ)) → List Token → Type 0
-TakesOnlyTwoNames None tokens = (first second : List ℕ) → tokens ≢ Name first ∷ Name second ∷ []
-TakesOnlyTwoNames (Some x) tokens = tokens ≡ Name x.0.now ∷ Name x.1.now ∷ []
+-- so many names and nothing else
+abbrev pub TakesOnlyNames : Result (Vec (Bor (List ℕ)) Global) ReadError → ℕ → List Token → Type 0
+TakesOnlyNames (Ok names) count tokens = (length names.items ≡ count) × (tokens ≡ map Name (map (λ name. name.now) names.items))
+TakesOnlyNames (Err Memory) count tokens = Unit {0}
+TakesOnlyNames (Err Syntax) count tokens = (names : List (List ℕ)) → length names ≡ count → tokens ≢ map Name names
 
 abbrev pub TakesMark : Option (Bor (List TokenHere)) → Symbol → List Token → Type 0
 TakesMark None symbol tokens = (rest : List Token) → tokens ≢ Mark symbol ∷ rest
@@ -95,6 +87,19 @@ ParsesQuote (Ok x) tokens =
 ParsesQuote (Err Memory) tokens = Unit {0}
 ParsesQuote (Err Syntax) tokens = (tree : TermTree) (rest : List Token) → IsQuotable tree → tokens ≢ quote_tokens tree rest
 
+-- so many quoted terms, one after another
+abbrev pub TakesQuotes : Result (Bor (List TokenHere)) ReadError → ℕ → List (Vec TermStep Global) → List (Vec TermStep Global) → List Token → Type 0
+TakesQuotes (Ok rest) count old new tokens =
+    (trees : List TermTree) × (terms : List (Vec TermStep Global)) × (length trees ≡ count) × AreQuotable trees × (tokens ≡ quotes_tokens trees (tokens_of rest.now)) × AreTerms terms trees × (new ≡ old ++ terms)
+TakesQuotes (Err Memory) count old new tokens = Unit {0}
+TakesQuotes (Err Syntax) count old new tokens = (trees : List TermTree) (rest : List Token) → length trees ≡ count → AreQuotable trees → tokens ≢ quotes_tokens trees rest
+
+abbrev pub ParsesQuotes : Result (Vec (Vec TermStep Global) Global × Bor (List TokenHere)) ReadError → ℕ → List Token → Type 0
+ParsesQuotes (Ok x) count tokens =
+    (trees : List TermTree) × (length trees ≡ count) × AreQuotable trees × (tokens ≡ quotes_tokens trees (tokens_of x.1.now)) × AreTerms x.0.items trees
+ParsesQuotes (Err Memory) count tokens = Unit {0}
+ParsesQuotes (Err Syntax) count tokens = (trees : List TermTree) (rest : List Token) → length trees ≡ count → AreQuotable trees → tokens ≢ quotes_tokens trees rest
+
 -- a quoted term and nothing else
 abbrev pub ParsesOnlyQuote : Result (Vec TermStep Global) ReadError → List Token → Type 0
 ParsesOnlyQuote (Ok steps) tokens =
@@ -110,97 +115,64 @@ ParsesConversion (Ok x) tokens =
 ParsesConversion (Err Memory) tokens = Unit {0}
 ParsesConversion (Err Syntax) tokens = (unit : ConversionUnit) (tree : TermTree) → IsConversionUnit unit → IsQuotable tree → tokens ≢ unit_tokens unit (quote_tokens tree [])
 
--- a quoted term, a name and nothing else
-abbrev pub ParsesQuoteAndName : Result (Vec TermStep Global × Bor (List ℕ)) ReadError → List Token → Type 0
-ParsesQuoteAndName (Ok x) tokens =
-    (tree : TermTree) × IsQuotable tree × (tokens ≡ quote_tokens tree (Name x.1.now ∷ [])) × (flat_steps_of x.0.items ≡ flat_steps (term_steps tree))
-ParsesQuoteAndName (Err Memory) tokens = Unit {0}
-ParsesQuoteAndName (Err Syntax) tokens = (tree : TermTree) (name : List ℕ) → IsQuotable tree → tokens ≢ quote_tokens tree (Name name ∷ [])
+-- the primitive rule or axiom that a word names
+abbrev pub kernel_rule_of : List ℕ → Option RuleName
+kernel_rule_of word =
+    if bytes_eq word (codes "REFL") then Some Refl else
+    (if bytes_eq word (codes "TRANS") then Some Trans else
+    (if bytes_eq word (codes "MK_COMB") then Some MkComb else
+    (if bytes_eq word (codes "ABS") then Some Abs else
+    (if bytes_eq word (codes "BETA") then Some Beta else
+    (if bytes_eq word (codes "ASSUME") then Some Assume else
+    (if bytes_eq word (codes "EQ_MP") then Some EqMp else
+    (if bytes_eq word (codes "DEDUCT_ANTISYM_RULE") then Some DeductAntisym else
+    (if bytes_eq word (codes "ETA") then Some EtaAxiom else
+    (if bytes_eq word (codes "SELECT") then Some SelectAxiom else None)))))))))
 
--- the rule of one premise that a word names
-abbrev pub premise_rule_of : List ℕ → Option PremiseRule
-premise_rule_of word =
+-- the rule of equations or of hypotheses that a word names
+abbrev pub equality_rule_of : List ℕ → Option RuleName
+equality_rule_of word =
     if bytes_eq word (codes "SYM") then Some Sym else
+    (if bytes_eq word (codes "BETA_CONV") then Some BetaConv else
+    (if bytes_eq word (codes "ADD_ASSUM") then Some AddAssum else
+    (if bytes_eq word (codes "PROVE_HYP") then Some ProveHyp else
     (if bytes_eq word (codes "EQT_INTRO") then Some EqtIntro else
-    (if bytes_eq word (codes "EQT_ELIM") then Some EqtElim else
+    (if bytes_eq word (codes "EQT_ELIM") then Some EqtElim else None)))))
+
+-- the rule of conjunction, implication or negation that a word names
+abbrev pub connective_rule_of : List ℕ → Option RuleName
+connective_rule_of word =
+    if bytes_eq word (codes "CONJ") then Some Conj else
     (if bytes_eq word (codes "CONJUNCT1") then Some Conjunct1 else
     (if bytes_eq word (codes "CONJUNCT2") then Some Conjunct2 else
+    (if bytes_eq word (codes "DISCH") then Some Disch else
     (if bytes_eq word (codes "UNDISCH") then Some Undisch else
+    (if bytes_eq word (codes "MP") then Some Mp else
     (if bytes_eq word (codes "NOT_INTRO") then Some NotIntro else
     (if bytes_eq word (codes "NOT_ELIM") then Some NotElim else None)))))))
 
--- the rule of two premises that a word names
-abbrev pub premises_rule_of : List ℕ → Option PremisesRule
-premises_rule_of word =
-    if bytes_eq word (codes "PROVE_HYP") then Some ProveHyp else
-    (if bytes_eq word (codes "CONJ") then Some Conj else
-    (if bytes_eq word (codes "MP") then Some Mp else None))
-
--- the rule of a term and a premise that a word names
-abbrev pub term_premise_rule_of : List ℕ → Option TermPremiseRule
-term_premise_rule_of word =
-    if bytes_eq word (codes "ADD_ASSUM") then Some AddAssum else
-    (if bytes_eq word (codes "DISCH") then Some Disch else
-    (if bytes_eq word (codes "SPEC") then Some Spec else
+-- the rule of quantifiers, disjunction or falsity that a word names
+abbrev pub quantifier_rule_of : List ℕ → Option RuleName
+quantifier_rule_of word =
+    if bytes_eq word (codes "SPEC") then Some Spec else
     (if bytes_eq word (codes "GEN") then Some Gen else
+    (if bytes_eq word (codes "EXISTS") then Some Exists else
+    (if bytes_eq word (codes "CHOOSE") then Some Choose else
     (if bytes_eq word (codes "DISJ1") then Some Disj1 else
     (if bytes_eq word (codes "DISJ2") then Some Disj2 else
-    (if bytes_eq word (codes "CONTR") then Some Contr else None))))))
-
--- the derived rule with arguments of its own that a word names
-abbrev pub single_rule_of : List ℕ → Option DerivedKind
-single_rule_of word =
-    if bytes_eq word (codes "BETA_CONV") then Some BetaConv else
     (if bytes_eq word (codes "DISJ_CASES") then Some DisjCases else
-    (if bytes_eq word (codes "EXISTS") then Some Exists else
-    (if bytes_eq word (codes "CHOOSE") then Some Choose else None)))
+    (if bytes_eq word (codes "CONTR") then Some Contr else None)))))))
 
--- the kind of derived rule that a word names
-abbrev pub derived_kind_of_word : List ℕ → Option DerivedKind
-derived_kind_of_word word =
-    option_or (option_map Premise (premise_rule_of word))
-    (option_or (option_map Premises (premises_rule_of word)) (option_or (option_map TermPremise (term_premise_rule_of word)) (single_rule_of word)))
+-- the rule that a word names
+abbrev pub rule_of_word : List ℕ → Option RuleName
+rule_of_word word = option_or (kernel_rule_of word) (option_or (equality_rule_of word) (option_or (connective_rule_of word) (quantifier_rule_of word)))
 
--- the rule of a term that a word names
-abbrev pub term_rule_of : List ℕ → Option TermRule
-term_rule_of word =
-    if bytes_eq word (codes "REFL") then Some Refl else
-    (if bytes_eq word (codes "BETA") then Some Beta else
-    (if bytes_eq word (codes "ASSUME") then Some Assume else None))
-
--- the rule of two theorems that a word names
-abbrev pub pair_rule_of : List ℕ → Option PairRule
-pair_rule_of word =
-    if bytes_eq word (codes "TRANS") then Some Trans else
-    (if bytes_eq word (codes "MK_COMB") then Some MkComb else
-    (if bytes_eq word (codes "EQ_MP") then Some EqMp else
-    (if bytes_eq word (codes "DEDUCT_ANTISYM_RULE") then Some DeductAntisym else None)))
-
--- the kernel's rule or axiom with arguments of its own that a word names
-abbrev pub kernel_rule_of : List ℕ → Option RuleKind
-kernel_rule_of word =
-    if bytes_eq word (codes "ABS") then Some Abs else
-    (if bytes_eq word (codes "INST") then Some Inst else
-    (if bytes_eq word (codes "INST_TYPE") then Some InstType else
-    (if bytes_eq word (codes "ETA") then Some (OfAxiom Eta) else
-    (if bytes_eq word (codes "SELECT") then Some (OfAxiom Select) else None))))
-
--- the kind of rule that a word names
-abbrev pub rule_kind_of : List ℕ → Option RuleKind
-rule_kind_of word =
-    option_or (option_map Term (term_rule_of word)) (option_or (option_map Pair (pair_rule_of word)) (option_or (kernel_rule_of word) (option_map Derived (derived_kind_of_word word))))
-
-abbrev pub ParsesDerived : Result OfDerived ReadError → DerivedKind → List Token → Type 0
-ParsesDerived (Ok derived) kind tokens =
-    (tree : DerivedTree) × IsDerivedTree tree × (derived_kind_of tree ≡ kind) × (tokens ≡ derived_tokens tree) × IsDerived derived tree
-ParsesDerived (Err Memory) kind tokens = Unit {0}
-ParsesDerived (Err Syntax) kind tokens = (tree : DerivedTree) → IsDerivedTree tree → derived_kind_of tree ≡ kind → tokens ≢ derived_tokens tree
-
-abbrev pub ParsesArguments : Result Rule ReadError → RuleKind → List Token → Type 0
-ParsesArguments (Ok rule) kind tokens =
-    (tree : RuleTree) × IsRuleTree tree × (kind_of tree ≡ kind) × (tokens ≡ argument_tokens tree) × IsRule rule tree
-ParsesArguments (Err Memory) kind tokens = Unit {0}
-ParsesArguments (Err Syntax) kind tokens = (tree : RuleTree) → IsRuleTree tree → kind_of tree ≡ kind → tokens ≢ argument_tokens tree
+-- what a rule of this word has behind it
+abbrev pub ParsesArguments : Result Rule ReadError → List ℕ → List Token → Type 0
+ParsesArguments (Ok rule) word tokens =
+    (tree : RuleTree) × IsRuleTree tree × (rule_word tree ≡ word) × (tokens ≡ argument_tokens tree) × IsRule rule tree
+ParsesArguments (Err Memory) word tokens = Unit {0}
+ParsesArguments (Err Syntax) word tokens = (tree : RuleTree) → IsRuleTree tree → rule_word tree ≡ word → tokens ≢ argument_tokens tree
 
 abbrev pub ParsesRule : Result Rule ReadError → List Token → Type 0
 ParsesRule (Ok rule) tokens = (tree : RuleTree) × IsRuleTree tree × (tokens ≡ rule_tokens tree) × IsRule rule tree

@@ -1,9 +1,10 @@
 -- The commands of the code as those of the grammar.
-use Rattle.std.specs.Prelude.{◌≡◌, ℕ, true, List, [], ◌∷◌}
+use Rattle.std.specs.Prelude.{◌≡◌, ℕ, true, List, [], ◌∷◌, length, map}
+use Rattle.std.proofs.Common.{Vec, Bor, Global}
 use Rattle.hol_model.specs.Terms.Name.{is_type_variable_name}
-use Rattle.hol_model_sessions.specs.Commands.{DerivedTree, by_conversion, by_premise, by_premises, by_term_and_premise, by_cases, by_witness}
-use Rattle.hol_model_sessions.specs.Commands.{by_choice, RuleTree, by_term, by_pair, by_abs, by_inst, by_inst_type, by_axiom, by_derived}
-use Rattle.hol_model_sessions.specs.CommandGrammar.{TheoremTree, by_rule, by_tautology, by_conversion as converted, CommandTree, thm_command, show_command, var_command}
+use Rattle.hol_model_rules.specs.RuleForms.{form_of}
+use Rattle.hol_model_sessions.specs.Commands.{RuleTree, by_name, by_inst, by_inst_type}
+use Rattle.hol_model_sessions.specs.CommandGrammar.{TheoremTree, by_rule, by_tautology, by_conversion, CommandTree, thm_command, show_command, var_command}
 use Rattle.hol_model_sessions.specs.CommandGrammar.{def_command, newtype_command, newconst_command, goal_command, e_command, b_command, p_command, r_command, save_command}
 use Rattle.hol_model_sessions.specs.TacticGrammar.{Tactic}
 use Rattle.hol_model_sessions.specs.SessionTools.{conversion_of_unit}
@@ -20,9 +21,7 @@ use Rattle.hol_tactic_exprs.specs.Expressions.{conversion_of}
 use Rattle.hol_tactic_grammar.specs.Expressions.{Kept}
 use Rattle.hol_tactic_grammar.specs.Tactics.{IsExpression}
 use Rattle.hol_script_commands.specs.declared.command.Rule.{Rule}
-use Rattle.hol_script_commands.specs.declared.command.Rule.TheVariants.{OfTerm, OfTheorems, Abs, Inst, InstType, OfAxiom, Derived as OfDerived}
-use Rattle.hol_script_commands.specs.declared.derived.Derived.{Derived}
-use Rattle.hol_script_commands.specs.declared.derived.Derived.TheVariants.{OfTerm as OfConversion, OfPremise, OfPremises, OfTermAndPremise, Cases, Witness, Choice}
+use Rattle.hol_script_commands.specs.declared.command.Rule.TheVariants.{Named, Inst, InstType}
 use Rattle.hol_script_commands.specs.declared.pairs.TermPair.{TermPair}
 use Rattle.hol_script_commands.specs.declared.pairs.TypePair.{TypePair}
 use Rattle.hol_script_commands.specs.declared.command.Asked.{Asked}
@@ -35,6 +34,16 @@ abbrev pub Match : {A B : Type 0} → (A → B → Type 0) → List A → List B
 Match fact [] [] = Unit {0}
 Match fact (x ∷ xs) (y ∷ ys) = fact x y × Match fact xs ys
 Match fact _ _ = ⊥
+
+-- the steps are those of the term
+abbrev pub IsTerm : Vec TermStep Global → TermTree → Type 0
+IsTerm steps tree = flat_steps_of steps.items ≡ flat_steps (term_steps tree)
+
+abbrev pub AreTerms : List (Vec TermStep Global) → List TermTree → Type 0
+AreTerms terms trees = Match IsTerm terms trees
+
+abbrev pub AreNames : List (Bor (List ℕ)) → List (List ℕ) → Type 0
+AreNames names others = map (λ name. name.now) names ≡ others
 
 -- the pair has the terms of the trees by their steps
 abbrev pub IsTermPair : TermPair → TermTree × TermTree → Type 0
@@ -50,34 +59,18 @@ IsTypePair pair parts = (steps_of pair.new.items ≡ type_steps parts.0) × (pai
 abbrev pub AreTypePairs : List TypePair → List (TypeTree × List ℕ) → Type 0
 AreTypePairs pairs trees = Match IsTypePair pairs trees
 
--- the derived rule has the arguments of the tree, its terms by their steps
-abbrev pub IsDerived : Derived → DerivedTree → Type 0
-IsDerived (OfConversion steps) (by_conversion tree) = flat_steps_of steps.items ≡ flat_steps (term_steps tree)
-IsDerived (OfPremise rule a) (by_premise other b) = (rule ≡ other) × (a.now ≡ b)
-IsDerived (OfPremises rule a b) (by_premises other c d) = (rule ≡ other) × (a.now ≡ c) × (b.now ≡ d)
-IsDerived (OfTermAndPremise rule steps a) (by_term_and_premise other tree b) = (rule ≡ other) × (flat_steps_of steps.items ≡ flat_steps (term_steps tree)) × (a.now ≡ b)
-IsDerived (Cases a b c) (by_cases d e f) = (a.now ≡ d) × (b.now ≡ e) × (c.now ≡ f)
-IsDerived (Witness formula witness a) (by_witness tree other b) =
-    (flat_steps_of formula.items ≡ flat_steps (term_steps tree)) × (flat_steps_of witness.items ≡ flat_steps (term_steps other)) × (a.now ≡ b)
-IsDerived (Choice steps a b) (by_choice tree c d) = (flat_steps_of steps.items ≡ flat_steps (term_steps tree)) × (a.now ≡ c) × (b.now ≡ d)
-IsDerived _ _ = ⊥
-
 -- the rule has the arguments of the tree, its terms by their steps
 abbrev pub IsRule : Rule → RuleTree → Type 0
-IsRule (OfTerm rule steps) (by_term other tree) = (rule ≡ other) × (flat_steps_of steps.items ≡ flat_steps (term_steps tree))
-IsRule (OfTheorems rule a b) (by_pair other c d) = (rule ≡ other) × (a.now ≡ c) × (b.now ≡ d)
-IsRule (Abs steps a) (by_abs tree b) = (flat_steps_of steps.items ≡ flat_steps (term_steps tree)) × (a.now ≡ b)
+IsRule (Named rule terms names) (by_name other trees others) = (rule ≡ other) × (length trees ≡ (form_of other).terms) × AreTerms terms.items trees × AreNames names.items others
 IsRule (Inst pairs a) (by_inst others b) = AreTermPairs pairs.items others × (a.now ≡ b)
 IsRule (InstType pairs a) (by_inst_type others b) = AreTypePairs pairs.items others × (a.now ≡ b)
-IsRule (OfAxiom rule) (by_axiom other) = rule ≡ other
-IsRule (OfDerived derived) (by_derived tree) = IsDerived derived tree
 IsRule _ _ = ⊥
 
 -- what `thm` asks for has the arguments of the tree
 abbrev pub IsAsked : Asked → TheoremTree → Type 0
 IsAsked (AsksRule rule) (by_rule tree) = IsRule rule tree
 IsAsked (Tautology steps) (by_tautology tree) = flat_steps_of steps.items ≡ flat_steps (term_steps tree)
-IsAsked (Conversion conversion steps) (converted unit tree) = (conversion_of conversion ≡ conversion_of_unit unit) × (flat_steps_of steps.items ≡ flat_steps (term_steps tree))
+IsAsked (Conversion conversion steps) (by_conversion unit tree) = (conversion_of conversion ≡ conversion_of_unit unit) × (flat_steps_of steps.items ≡ flat_steps (term_steps tree))
 IsAsked _ _ = ⊥
 
 -- ---- commands

@@ -1,19 +1,20 @@
 // Commands, read from the tokens of a text.
-ghost use Rattle.std.specs.Prelude.{◌≡◌};
+ghost use Rattle.std.specs.Prelude.{◌≡◌, codes};
 ghost use Rattle.hol_syntax_grammar.specs.Views.{tokens_of};
 ghost use Rattle.hol_tactic_grammar.specs.Tokens.{AreTokens};
-ghost use Rattle.hol_script_commands.specs.Reading.{term_rule_of, pair_rule_of, kernel_rule_of, rule_kind_of, naming_kind_of, command_kind_of, ParsesTyping};
+ghost use Rattle.hol_script_commands.specs.Reading.{naming_kind_of, command_kind_of, ParsesTyping};
 ghost use Rattle.hol_script_commands.specs.Reading.{ParsesArguments, ParsesRule, ParsesTautology, ParsesConverted, ParsesAsked, ParsesBody, ParsesBehind, ParsesCommand};
 ghost use Rattle.hol_script_commands.specs.Pairs.{ParsesPairs};
 
-use crate::derived::{Derived, derived_kind, parse_derived};
 use crate::goals::{GoalKind, goal_kind, parse_goal_command};
 use crate::pairs::{
     QuotedPair, TermPair, TypePair, parse_term_pairs, parse_type_pairs, take_pairs,
 };
-use crate::quotes::{parse_conversion_and_quote, parse_only_quote, parse_quote_and_name};
-use crate::tokens::{only_name, only_two_names, take_mark, take_name};
-use hol_model::{Axiom, DerivedKind, PairRule, RuleKind, Symbol, TermRule};
+use crate::quotes::{parse_conversion_and_quote, parse_only_quote};
+use crate::rules::{parse_named, rule_name};
+use crate::tokens::{only_name, take_mark, take_name};
+use hol_model::Symbol;
+use hol_model_rules::RuleName;
 use hol_syntax::parse_type;
 use hol_syntax_grammar::{ReadError, TermStep, Token, TypeStep};
 use hol_tactic_exprs::{Conv, Tac};
@@ -22,13 +23,9 @@ use std::alloc::Global;
 /// A rule with its arguments: terms and types by their steps, theorems and type variables by their names.
 #[derive(Drop)]
 pub enum Rule<'a> {
-    OfTerm(TermRule, Vec<TermStep<'a>>),
-    OfTheorems(PairRule, &'a str, &'a str),
-    Abs(Vec<TermStep<'a>>, &'a str),
+    Named(RuleName, Vec<Vec<TermStep<'a>>>, Vec<&'a str>),
     Inst(Vec<TermPair<'a>>, &'a str),
     InstType(Vec<TypePair<'a>>, &'a str),
-    OfAxiom(Axiom),
-    Derived(Derived<'a>),
 }
 
 /// What `thm` asks for: what a rule gives, a tautology, or what a conversion makes of a term.
@@ -81,112 +78,6 @@ enum CommandKind {
     OfGoals(GoalKind),
 }
 
-// The kind of rule that a word names.
-fn rule_kind(word: &str) -> Option<RuleKind>
-    ensures { result ≡ rule_kind_of word.now }
-{
-    if let Some(rule) = term_rule(word) {
-        return Some(RuleKind::Term(rule));
-    }
-    if let Some(rule) = pair_rule(word) {
-        return Some(RuleKind::Pair(rule));
-    }
-    if let Some(kind) = kernel_rule(word) {
-        return Some(kind);
-    }
-    match derived_kind(word) {
-        Some(kind) => Some(RuleKind::Derived(kind)),
-        None => None,
-    }
-}
-
-// The rule of a term that a word names.
-fn term_rule(word: &str) -> Option<TermRule>
-    ensures { result ≡ term_rule_of word.now }
-{
-    if word == "REFL" {
-        Some(TermRule::Refl)
-    } else if word == "BETA" {
-        Some(TermRule::Beta)
-    } else if word == "ASSUME" {
-        Some(TermRule::Assume)
-    } else {
-        None
-    }
-}
-
-// The rule of two theorems that a word names.
-fn pair_rule(word: &str) -> Option<PairRule>
-    ensures { result ≡ pair_rule_of word.now }
-{
-    if word == "TRANS" {
-        Some(PairRule::Trans)
-    } else if word == "MK_COMB" {
-        Some(PairRule::MkComb)
-    } else if word == "EQ_MP" {
-        Some(PairRule::EqMp)
-    } else if word == "DEDUCT_ANTISYM_RULE" {
-        Some(PairRule::DeductAntisym)
-    } else {
-        None
-    }
-}
-
-// The kernel's rule or axiom with arguments of its own that a word names.
-fn kernel_rule(word: &str) -> Option<RuleKind>
-    ensures { result ≡ kernel_rule_of word.now }
-{
-    if word == "ABS" {
-        Some(RuleKind::Abs)
-    } else if word == "INST" {
-        Some(RuleKind::Inst)
-    } else if word == "INST_TYPE" {
-        Some(RuleKind::InstType)
-    } else if word == "ETA" {
-        Some(RuleKind::Axiom(Axiom::Eta))
-    } else if word == "SELECT" {
-        Some(RuleKind::Axiom(Axiom::Select))
-    } else {
-        None
-    }
-}
-
-// A quoted term and nothing else.
-fn parse_term_rule<'a>(
-    alloc: Global,
-    rule: TermRule,
-    tokens: &'a [Token<'a>],
-) -> Result<Rule<'a>, ReadError>
-    ensures { ParsesArguments result (RuleKind.Term rule) (tokens_of tokens.now) }
-{
-    match parse_only_quote(alloc, tokens) {
-        Ok(steps) => Ok(Rule::OfTerm(rule, steps)),
-        Err(error) => Err(error),
-    }
-}
-
-// The names of two theorems and nothing else.
-fn parse_pair_rule<'a>(rule: PairRule, tokens: &'a [Token<'a>]) -> Result<Rule<'a>, ReadError>
-    requires { AreTokens (tokens_of tokens.now) }
-    ensures { ParsesArguments result (RuleKind.Pair rule) (tokens_of tokens.now) }
-{
-    match only_two_names(tokens) {
-        Some((first, second)) => Ok(Rule::OfTheorems(rule, first, second)),
-        None => Err(ReadError::Syntax),
-    }
-}
-
-// A quoted variable, the name of a theorem and nothing else.
-fn parse_abs<'a>(alloc: Global, tokens: &'a [Token<'a>]) -> Result<Rule<'a>, ReadError>
-    requires { AreTokens (tokens_of tokens.now) }
-    ensures { ParsesArguments result RuleKind.Abs (tokens_of tokens.now) }
-{
-    match parse_quote_and_name(alloc, tokens) {
-        Ok((steps, name)) => Ok(Rule::Abs(steps, name)),
-        Err(error) => Err(error),
-    }
-}
-
 // A list of pairs in brackets and the name of a theorem, and nothing else.
 fn parse_pairs<'a>(
     alloc: Global,
@@ -205,7 +96,7 @@ fn parse_pairs<'a>(
 // Pairs of quoted terms and the name of a theorem.
 fn parse_inst<'a>(alloc: Global, tokens: &'a [Token<'a>]) -> Result<Rule<'a>, ReadError>
     requires { AreTokens (tokens_of tokens.now) }
-    ensures { ParsesArguments result RuleKind.Inst (tokens_of tokens.now) }
+    ensures { ParsesArguments result (codes "INST") (tokens_of tokens.now) }
 {
     let (pairs, name) = parse_pairs(alloc, tokens)?;
     match parse_term_pairs(alloc, &pairs) {
@@ -217,7 +108,7 @@ fn parse_inst<'a>(alloc: Global, tokens: &'a [Token<'a>]) -> Result<Rule<'a>, Re
 // Pairs of a quoted type and a quoted type variable, and the name of a theorem.
 fn parse_inst_type<'a>(alloc: Global, tokens: &'a [Token<'a>]) -> Result<Rule<'a>, ReadError>
     requires { AreTokens (tokens_of tokens.now) }
-    ensures { ParsesArguments result RuleKind.InstType (tokens_of tokens.now) }
+    ensures { ParsesArguments result (codes "INST_TYPE") (tokens_of tokens.now) }
 {
     let (pairs, name) = parse_pairs(alloc, tokens)?;
     match parse_type_pairs(alloc, &pairs) {
@@ -226,26 +117,24 @@ fn parse_inst_type<'a>(alloc: Global, tokens: &'a [Token<'a>]) -> Result<Rule<'a
     }
 }
 
-fn parse_axiom<'a>(named: Axiom, tokens: &'a [Token<'a>]) -> Result<Rule<'a>, ReadError>
-    ensures { ParsesArguments result (RuleKind.Axiom named) (tokens_of tokens.now) }
-{
-    if !tokens.is_empty() {
-        return Err(ReadError::Syntax);
-    }
-    Ok(Rule::OfAxiom(named))
-}
-
-fn parse_derived_rule<'a>(
+// What a rule of this word has behind it.
+fn parse_arguments<'a>(
     alloc: Global,
-    kind: DerivedKind,
+    word: &str,
     tokens: &'a [Token<'a>],
 ) -> Result<Rule<'a>, ReadError>
     requires { AreTokens (tokens_of tokens.now) }
-    ensures { ParsesArguments result (RuleKind.Derived kind) (tokens_of tokens.now) }
+    ensures { ParsesArguments result word.now (tokens_of tokens.now) }
 {
-    match parse_derived(alloc, kind, tokens) {
-        Ok(derived) => Ok(Rule::Derived(derived)),
-        Err(error) => Err(error),
+    if word == "INST" {
+        return parse_inst(alloc, tokens);
+    }
+    if word == "INST_TYPE" {
+        return parse_inst_type(alloc, tokens);
+    }
+    match rule_name(word) {
+        Some(rule) => parse_named(alloc, rule, tokens),
+        None => Err(ReadError::Syntax),
     }
 }
 
@@ -254,20 +143,9 @@ fn parse_rule<'a>(alloc: Global, tokens: &'a [Token<'a>]) -> Result<Rule<'a>, Re
     requires { AreTokens (tokens_of tokens.now) }
     ensures { ParsesRule result (tokens_of tokens.now) }
 {
-    let Some((word, arguments)) = take_name(tokens) else {
-        return Err(ReadError::Syntax);
-    };
-    let Some(kind) = rule_kind(word) else {
-        return Err(ReadError::Syntax);
-    };
-    match kind {
-        RuleKind::Term(rule) => parse_term_rule(alloc, rule, arguments),
-        RuleKind::Pair(rule) => parse_pair_rule(rule, arguments),
-        RuleKind::Abs => parse_abs(alloc, arguments),
-        RuleKind::Inst => parse_inst(alloc, arguments),
-        RuleKind::InstType => parse_inst_type(alloc, arguments),
-        RuleKind::Axiom(axiom) => parse_axiom(axiom, arguments),
-        RuleKind::Derived(kind) => parse_derived_rule(alloc, kind, arguments),
+    match take_name(tokens) {
+        Some((word, arguments)) => parse_arguments(alloc, word, arguments),
+        None => Err(ReadError::Syntax),
     }
 }
 

@@ -3,8 +3,8 @@
 
 pub mod command;
 pub mod cut;
-pub mod derived;
 mod goals;
 pub mod pairs;
 mod quotes;
+mod rules;
 mod tokens;

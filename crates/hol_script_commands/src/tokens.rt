@@ -1,13 +1,26 @@
 // Tokens from the front: names, marks and quoted parts.
 ghost use Rattle.std.specs.Prelude.{◌≡◌};
+ghost use Rattle.hol_model.specs.Texts.Lexing.{IsToken};
 ghost use Rattle.hol_syntax_grammar.specs.Views.{token_of, tokens_of};
 ghost use Rattle.hol_tactic_grammar.specs.Tokens.{AreTokens};
 ghost use Rattle.hol_script_commands.specs.Reading as reading;
-ghost use Rattle.hol_script_commands.specs.Reading.{TakesName, TakesOnlyName, TakesOnlyTwoNames, TakesMark, TakesQuote};
+ghost use Rattle.hol_script_commands.specs.Reading.{IsNameOf, TakesName, TakesOnlyName, TakesOnlyNames, TakesMark, TakesQuote};
 
 use hol_model::Symbol;
 use hol_syntax::identifier;
-use hol_syntax_grammar::Token;
+use hol_syntax_grammar::{ReadError, Token};
+use std::alloc::Global;
+
+// The name that a token is.
+fn token_name<'a>(token: &Token<'a>) -> Option<&'a str>
+    requires { IsToken (token_of token.now) }
+    ensures { IsNameOf result (token_of token.now) }
+{
+    match token {
+        Token::Name(bytes) => identifier(bytes),
+        _ => None,
+    }
+}
 
 /// The name at the front of the tokens, and what follows it.
 pub fn take_name<'a>(tokens: &'a [Token<'a>]) -> Option<(&'a str, &'a [Token<'a>])>
@@ -15,11 +28,11 @@ pub fn take_name<'a>(tokens: &'a [Token<'a>]) -> Option<(&'a str, &'a [Token<'a>
     ensures { TakesName result (tokens_of tokens.now) }
 {
     match tokens {
-        [Token::Name(bytes), rest @ ..] => match identifier(bytes) {
+        [first, rest @ ..] => match token_name(first) {
             Some(name) => Some((name, rest)),
             None => None,
         },
-        _ => None,
+        [] => None,
     }
 }
 
@@ -32,16 +45,26 @@ pub fn only_name<'a>(tokens: &'a [Token<'a>]) -> Option<&'a str>
     if rest.is_empty() { Some(name) } else { None }
 }
 
-/// The two names that the tokens are.
-pub fn only_two_names<'a>(tokens: &'a [Token<'a>]) -> Option<(&'a str, &'a str)>
+/// The names that the tokens are, so many.
+pub fn only_names<'a>(
+    alloc: Global,
+    count: usize,
+    tokens: &'a [Token<'a>],
+) -> Result<Vec<&'a str>, ReadError>
     requires { AreTokens (tokens_of tokens.now) }
-    ensures { TakesOnlyTwoNames result (tokens_of tokens.now) }
+    ensures { TakesOnlyNames result count (tokens_of tokens.now) }
 {
-    let (first, rest) = take_name(tokens)?;
-    match only_name(rest) {
-        Some(second) => Some((first, second)),
-        None => None,
+    if tokens.len() != count {
+        return Err(ReadError::Syntax);
     }
+    let mut names = Vec::new(alloc);
+    for token in tokens {
+        let Some(name) = token_name(token) else {
+            return Err(ReadError::Syntax);
+        };
+        names.push(name)?;
+    }
+    Ok(names)
 }
 
 /// What follows a mark at the front of the tokens.

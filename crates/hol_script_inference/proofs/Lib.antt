@@ -1,5 +1,5 @@
-pub mod DerivedLemmas
 pub mod ReplacementLemmas
+pub mod NamedLemmas
 pub mod RowLemmas
 pub mod MadeTheorems
 pub mod TautologyLemmas

@@ -1,4 +1,4 @@
--- What the pairs of INST and INST_TYPE are read as, and what the rules answer for them.
+-- What arguments are read as one after another, and what INST and INST_TYPE answer for their pairs.
 use Rattle.std.proofs.Common.{◌≡◌, ◌⊎◌, inl, inr, ℕ, List, [], ◌∷◌, ◌++◌, refl, sym, ◌∙◌, ap, subst, Option, None, Some, Result, Ok, Err}
 use Rattle.std.proofs.lemmas.List.{append_assoc}
 use Rattle.hol_model.specs.declared.fault.Fault.{Fault}
@@ -16,14 +16,14 @@ use Rattle.hol_model_sessions.specs.Sessions.{State, scope_in, replacement, type
 use Rattle.hol_script_inference.specs.Answers.{AnswersRule}
 use Rattle.hol_script_commands.specs.Views.{Match}
 
--- ---- one pair after another
+-- ---- one argument after another
 
 -- what was read goes before what the others are read as
 abbrev pub preceded : {B : Type 0} → List B → Result (List B) Fault → Result (List B) Fault
 preceded done (Ok others) = Ok (done ++ others)
 preceded done (Err fault) = Err fault
 
-preceded-more : {B : Type 0} → (done : List B) (first : B) (read : Result (List B) Fault) → preceded done (read >>= λ others. Ok (first ∷ others)) ≡ preceded (done ++ first ∷ []) read
+pub preceded-more : {B : Type 0} → (done : List B) (first : B) (read : Result (List B) Fault) → preceded done (read >>= λ others. Ok (first ∷ others)) ≡ preceded (done ++ first ∷ []) read
 preceded-more done first (Ok others) = ap (λ xs. Ok xs) (sym (append_assoc done (first ∷ []) others))
 preceded-more done first (Err fault) = refl
 

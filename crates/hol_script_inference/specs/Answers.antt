@@ -1,9 +1,10 @@
 -- What the calls on behalf of `thm` answer.
-use Rattle.std.specs.Prelude.{◌≡◌, ◌⊎◌, List, Result, Ok, Err}
-use Rattle.std.proofs.Common.{Vec, Global}
+use Rattle.std.specs.Prelude.{◌≡◌, ◌⊎◌, ℕ, List, Result, Ok, Err}
+use Rattle.std.proofs.Common.{Vec, Bor, Global}
 use Rattle.hol_model.specs.declared.fault.Fault.{Fault}
-use Rattle.hol_model.specs.declared.fault.Fault.TheVariants.{Memory}
+use Rattle.hol_model.specs.declared.fault.Fault.TheVariants.{Memory, UnknownName}
 use Rattle.hol_model.specs.declared.limits.TheConstants.{STEPS_LIMIT}
+use Rattle.hol_model.specs.Kernel.Outcome.{given}
 use Rattle.hol_model.specs.Kernel.Theorem.{Theorem}
 use Rattle.hol_model.specs.Refining.HostFunctions.{HostConversions, no_host_conversions}
 use Rattle.hol_model_sessions.specs.Commands.{RuleTree}
@@ -15,8 +16,12 @@ use Rattle.hol_model_sessions.specs.ScriptSessions.{Tools, IsTheoremAnswer, IsRe
 use Rattle.hol_model_sessions.specs.SessionCalls.{SaysRefusal}
 use Rattle.hol_model_sessions.specs.SessionTools.{tools}
 use Rattle.hol_host.specs.Host.{HostRefiners, host_of, no_host_refiners}
+use Rattle.hol_journal.specs.Journal.{Recorded}
+use Rattle.hol_theorem_store.specs.Stored.{Stored}
+use Rattle.hol_just_replay.specs.Outcomes.{lent_theorems}
 use Rattle.hol_script_session.specs.declared.reply.Refused.{Refused}
 use Rattle.hol_script_session.specs.Answers.{Beside, with_beside, row_bytes}
+use Rattle.hol_script_session.specs.SessionState.{theorem_of}
 
 -- what may come of tautologies, conversions and refiners in a session with a host's functions
 abbrev pub session_tools : HostRefiners → HostConversions → Tools
@@ -37,6 +42,15 @@ AnswersRule (Err fault) library tree = (fault ≡ Memory) ⊎ IsRuleAnswer libra
 abbrev pub AnswersItems : {A : Type 0} → Result (Vec A Global) Fault → Result (List A) Fault → Type 0
 AnswersItems (Ok x) outcome = outcome ≡ Ok x.items
 AnswersItems (Err fault) outcome = (fault ≡ Memory) ⊎ (outcome ≡ Err fault)
+
+-- the theorem that is stored under a name
+abbrev pub stored_theorem : Stored → List ℕ → Result Theorem Fault
+stored_theorem stored name = given (theorem_of (stored.theorems name)) UnknownName (λ theorem. Ok theorem)
+
+-- these theorems are lent, or there is no memory
+abbrev pub AnswersLent : Result (Vec (Bor Recorded) Global) Fault → Result (List Theorem) Fault → Type 0
+AnswersLent (Ok lent) outcome = outcome ≡ Ok (lent_theorems lent.items)
+AnswersLent (Err fault) outcome = (fault ≡ Memory) ⊎ (outcome ≡ Err fault)
 
 -- with these lemmas `thm` may give this, whatever proof stands beside the library
 abbrev pub MayGive : Tools → List Theorem → Library → TheoremTree → Result Theorem Refusal → Type 0

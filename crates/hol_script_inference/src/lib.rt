@@ -2,11 +2,9 @@
 #![tactic(auto, using(hol_model::proofs::Kernel::Refusals::refusals))]
 
 mod conversions;
-mod derived_rules;
 mod instances;
-mod primitive_rules;
+mod named_rules;
 mod rows;
-mod rules;
 mod tautologies;
 mod theorems;
 

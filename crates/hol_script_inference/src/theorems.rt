@@ -10,9 +10,8 @@ ghost use Rattle.hol_script_inference.specs.Answers.{session_tools, AnswersRule,
 ghost use Rattle.hol_script_inference.specs.Recording.{GrowsJournal, MakesTheorem, theorem_given, without_row};
 
 use crate::conversions::conversion;
-use crate::derived_rules::derive;
 use crate::instances::{inst, inst_type};
-use crate::primitive_rules::{abs, by_axiom, by_pair, by_term};
+use crate::named_rules::by_name;
 use crate::tautologies::tautology;
 use hol_host::Refiners;
 use hol_journal::Rec;
@@ -106,12 +105,8 @@ fn apply(session: &mut Session, alloc: Global, rule: &Rule) -> Result<Rec, Fault
     ensures grows { GrowsJournal session.old session.new result }
 {
     match rule {
-        Rule::OfTerm(rule, steps) => by_term(session, alloc, *rule, steps),
-        Rule::OfTheorems(rule, first, second) => by_pair(session, alloc, *rule, first, second),
-        Rule::Abs(steps, name) => abs(session, alloc, steps, name),
+        Rule::Named(rule, terms, names) => by_name(session, alloc, *rule, terms, names),
         Rule::Inst(pairs, name) => inst(session, alloc, pairs, name),
         Rule::InstType(pairs, name) => inst_type(session, alloc, pairs, name),
-        Rule::OfAxiom(rule) => by_axiom(session, alloc, *rule),
-        Rule::Derived(rule) => derive(session, alloc, rule),
     }
 }

@@ -1,0 +1,2 @@
+pub mod RuleForms
+pub mod RuleOutcomes
