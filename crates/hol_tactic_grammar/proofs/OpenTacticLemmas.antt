@@ -16,29 +16,29 @@ use Rattle.hol_syntax_grammar.specs.declared.type_reader.ReadError.{ReadError}
 use Rattle.hol_syntax_grammar.specs.declared.type_reader.ReadError.TheVariants.{Memory, Syntax}
 use Rattle.hol_syntax_grammar.specs.TermSteps.{FlatStep}
 use Rattle.hol_syntax_grammar.specs.Views.{tokens_of}
+use Rattle.hol_tactic_grammar.specs.declared.tactics.Prefix.{Prefix}
+use Rattle.hol_tactic_grammar.specs.declared.tactics.Prefix.TheVariants.{Repeat, Try}
 use Rattle.hol_tactic_grammar.specs.declared.tactic_reader.Open.{Open}
-use Rattle.hol_tactic_grammar.specs.declared.tactic_reader.Open.TheVariants.{Repeated, Tried, Enclosed, Choice, Chain, Listed}
+use Rattle.hol_tactic_grammar.specs.declared.tactic_reader.Open.TheVariants.{Prefixed, Enclosed, Choice, Chain, Listed}
 use Rattle.hol_tactic_grammar.specs.declared.tactic_reader.Reading.{Reading}
 use Rattle.hol_tactic_grammar.specs.declared.tactic_reader.Reading.TheVariants as readings
 use Rattle.hol_tactic_grammar.specs.declared.tactic_reader.Reader.{Reader}
 use Rattle.hol_tactic_grammar.specs.Tokens.{behind, IsAt, IsNotAt}
 use Rattle.hol_tactic_grammar.specs.Conversions.{Without}
 use Rattle.hol_tactic_grammar.specs.Expressions.{Kept, Joint, repeat, try, on_each, then_on, or_else, expression_here, joint_here, all_expressions, all_links}
-use Rattle.hol_tactic_grammar.specs.Tactics.{Meaning, IsNoUnit, IsNoChoice, with_choice, with_list, IsNoLink, IsWhole, IsNoWhole, ReadsUnit, ReadsTactic, Fits}
-use Rattle.hol_tactic_grammar.specs.OpenTactics.{IsChoiceFront, IsChainFront, IsListFront, IsListPlace, WantsChoice, WantsChain, AreOpen, HasUnit, HasChoice, HasChoiceWhole, HasChain, HasWhole}
-use Rattle.hol_tactic_grammar.specs.OpenTactics.{opens_of, IsReading, turns_left, Goes, Waits, Nests, Closes, unit_read}
+use Rattle.hol_tactic_grammar.specs.Tactics.{Meaning, with_prefix, IsUnit, IsNoUnit, IsNoChoice, with_choice, with_list, IsNoLink, IsWhole, IsNoWhole, ReadsUnit, Means, ReadsTactic, Fits}
+use Rattle.hol_tactic_grammar.specs.OpenTactics.{prefix_word, IsChoiceFront, IsChainFront, IsListFront, IsListPlace, WantsChoice, WantsChain, AreOpen, HasUnit, HasChoice, HasChoiceWhole, HasChain, HasWhole}
+use Rattle.hol_tactic_grammar.specs.OpenTactics.{opens_of, IsReading, turns_left, Goes, Waits, Nests, Closes, AddsElement, unit_read, unit_made}
 use Rattle.hol_tactic_grammar.proofs.TacticLemmas.{repeat-read, repeat-none, try-read, try-none, enclosed-read, enclosed-open, enclosed-too-deep, enclosed-refused, choice-begins, choice-goes-on}
 use Rattle.hol_tactic_grammar.proofs.TacticLemmas.{choice-ended, choice-broken, choice-refused, whole-begins, whole-goes-on, whole-ended, whole-broken, whole-refused, then-read, thenl-read}
 use Rattle.hol_tactic_grammar.proofs.TacticLemmas.{list-begins, list-goes-on, list-taken, list-ended, list-open, list-empty, list-refused, mapped, empty-ends, some-behind, fits-whole}
 
 -- ---- what fails in a place
 
-repeat-refused : (room : ℕ) (inner : List Token) → IsNoUnit room inner → IsNoUnit (room + 1) (Name (codes "REPEAT") ∷ inner)
-repeat-refused room inner refused = repeat-none (room + 1) (Name (codes "REPEAT") ∷ inner) inner refl (λ operand left fits same.
+prefix-refused : (prefix : Prefix) (room : ℕ) (inner : List Token) → IsNoUnit room inner → IsNoUnit (room + 1) (Name (prefix_word prefix) ∷ inner)
+prefix-refused Repeat room inner refused = repeat-none (room + 1) (Name (codes "REPEAT") ∷ inner) inner refl (λ operand left fits same.
     refused operand left (record { nested = omega (arith, fits.nested); quotable = fits.quotable }) same)
-
-try-refused : (room : ℕ) (inner : List Token) → IsNoUnit room inner → IsNoUnit (room + 1) (Name (codes "TRY") ∷ inner)
-try-refused room inner refused = try-none (room + 1) (Name (codes "TRY") ∷ inner) inner refl (λ operand left fits same.
+prefix-refused Try room inner refused = try-none (room + 1) (Name (codes "TRY") ∷ inner) inner refl (λ operand left fits same.
     refused operand left (record { nested = omega (arith, fits.nested); quotable = fits.quotable }) same)
 
 then-none : (room : ℕ) (inner : List Token) → IsNoChoice room inner → IsNoLink room (Name (codes "THEN") ∷ inner)
@@ -88,8 +88,7 @@ mutual
   -- what fails behind open places fails whole
   pub chain-fails : (opens : List Open) (room : ℕ) (all tokens : List Token) → WantsChain opens → AreOpen opens room all tokens → IsNoWhole room tokens → IsNoTactic all
   chain-fails [] room all tokens wanted opened refused = none-whole room all tokens opened refused
-  chain-fails (Repeated ∷ opens) room all tokens wanted opened refused = absurd wanted
-  chain-fails (Tried ∷ opens) room all tokens wanted opened refused = absurd wanted
+  chain-fails (Prefixed prefix ∷ opens) room all tokens wanted opened refused = absurd wanted
   chain-fails (Enclosed ∷ opens) room all tokens wanted opened refused =
       unit-fails opens (room + 1) all (Mark OpenParenthesis ∷ tokens) opened (enclosed-refused (room + 1) room (Mark OpenParenthesis ∷ tokens) tokens refl refl refused)
   chain-fails (Choice first others ∷ opens) room all tokens wanted opened refused = absurd wanted
@@ -101,8 +100,7 @@ mutual
 
   pub choice-fails : (opens : List Open) (room : ℕ) (all tokens : List Token) → WantsChoice opens → AreOpen opens room all tokens → IsNoChoice room tokens → IsNoTactic all
   choice-fails [] room all tokens wanted opened refused = none-whole room all tokens opened (whole-refused room tokens refused)
-  choice-fails (Repeated ∷ opens) room all tokens wanted opened refused = absurd wanted
-  choice-fails (Tried ∷ opens) room all tokens wanted opened refused = absurd wanted
+  choice-fails (Prefixed prefix ∷ opens) room all tokens wanted opened refused = absurd wanted
   choice-fails (Enclosed ∷ opens) room all tokens wanted opened refused =
       unit-fails opens (room + 1) all (Mark OpenParenthesis ∷ tokens) opened (enclosed-refused (room + 1) room (Mark OpenParenthesis ∷ tokens) tokens refl refl (whole-refused room tokens refused))
   choice-fails (Choice first others ∷ opens) room all tokens wanted opened refused = absurd wanted
@@ -116,8 +114,7 @@ mutual
 
   pub unit-fails : (opens : List Open) (room : ℕ) (all tokens : List Token) → AreOpen opens room all tokens → IsNoUnit room tokens → IsNoTactic all
   unit-fails [] room all tokens opened refused = none-whole room all tokens opened (whole-refused room tokens (choice-refused room tokens refused))
-  unit-fails (Repeated ∷ opens) room all tokens opened refused = unit-fails opens (room + 1) all (Name (codes "REPEAT") ∷ tokens) opened (repeat-refused room tokens refused)
-  unit-fails (Tried ∷ opens) room all tokens opened refused = unit-fails opens (room + 1) all (Name (codes "TRY") ∷ tokens) opened (try-refused room tokens refused)
+  unit-fails (Prefixed prefix ∷ opens) room all tokens opened refused = unit-fails opens (room + 1) all (Name (prefix_word prefix) ∷ tokens) opened (prefix-refused prefix room tokens refused)
   unit-fails (Enclosed ∷ opens) room all tokens opened refused =
       unit-fails opens (room + 1) all (Mark OpenParenthesis ∷ tokens) opened (enclosed-refused (room + 1) room (Mark OpenParenthesis ∷ tokens) tokens refl refl (whole-refused room tokens
       (choice-refused room tokens refused)))
@@ -137,8 +134,7 @@ mutual
 -- the room behind open places
 pub room-within : (opens : List Open) (room : ℕ) (all tokens : List Token) → AreOpen opens room all tokens → room ≤ EXPRESSION_NESTING_LIMIT
 room-within [] room all tokens opened = omega (arith, opened.0)
-room-within (Repeated ∷ opens) room all tokens opened = omega (arith, room-within opens (room + 1) all (Name (codes "REPEAT") ∷ tokens) opened)
-room-within (Tried ∷ opens) room all tokens opened = omega (arith, room-within opens (room + 1) all (Name (codes "TRY") ∷ tokens) opened)
+room-within (Prefixed prefix ∷ opens) room all tokens opened = omega (arith, room-within opens (room + 1) all (Name (prefix_word prefix) ∷ tokens) opened)
 room-within (Enclosed ∷ opens) room all tokens opened = omega (arith, room-within opens (room + 1) all (Mark OpenParenthesis ∷ tokens) opened)
 room-within (Choice first others ∷ opens) room all tokens opened = room-within opens room all opened.1.chain opened.1.before
 room-within (Chain first links ∷ opens) room all tokens opened = room-within opens room all opened.1.chain opened.1.before
@@ -191,11 +187,9 @@ begins result old new place token at tokens places deep nesting opened front =
 pub enclosed-deep : (inner : List Token) → IsNoUnit 0 (Mark OpenParenthesis ∷ inner)
 enclosed-deep inner = enclosed-too-deep 0 (Mark OpenParenthesis ∷ inner) inner refl refl
 
-pub repeat-deep : (inner : List Token) → IsNoUnit 0 (Name (codes "REPEAT") ∷ inner)
-repeat-deep inner = repeat-none 0 (Name (codes "REPEAT") ∷ inner) inner refl (λ operand left fits same. omega (arith, fits.nested))
-
-pub try-deep : (inner : List Token) → IsNoUnit 0 (Name (codes "TRY") ∷ inner)
-try-deep inner = try-none 0 (Name (codes "TRY") ∷ inner) inner refl (λ operand left fits same. omega (arith, fits.nested))
+pub prefix-deep : (prefix : Prefix) (inner : List Token) → IsNoUnit 0 (Name (prefix_word prefix) ∷ inner)
+prefix-deep Repeat inner = repeat-none 0 (Name (codes "REPEAT") ∷ inner) inner refl (λ operand left fits same. omega (arith, fits.nested))
+prefix-deep Try inner = try-none 0 (Name (codes "TRY") ∷ inner) inner refl (λ operand left fits same. omega (arith, fits.nested))
 
 -- a unit without parts is read
 pub leaf-goes : (read : Result (Tac Kept × ℕ) ReadError) (result : Result Reading ReadError) (at : ℕ) (reader : Reader) (tokens : List TokenHere) → result ≡ unit_read read
@@ -211,58 +205,59 @@ leaf-goes (Err Syntax) result at reader tokens is read opened =
 
 -- ---- a unit
 
-pub unit-repeated : (opens above : List Open) (room after : ℕ) (all rest : List Token) (meaning made : Meaning) → opens ≡ Repeated ∷ above → after ≡ room → made ≡ repeat meaning
-    → HasUnit opens room all rest meaning → HasUnit above (after + 1) all rest made
-unit-repeated opens above room after all rest meaning made is same means has =
-    subst (λ (n : ℕ). HasUnit above (n + 1) all rest made) (sym same) (go (subst (λ (os : List Open). HasUnit os room all rest meaning) is has))
-  where
-    go : HasUnit (Repeated ∷ above) room all rest meaning → HasUnit above (room + 1) all rest made
-    go unit = record {
-      tokens = Name (codes "REPEAT") ∷ unit.tokens;
+-- the newest place is closed
+pub unit-in : (opens above : List Open) (place : Open) (room after : ℕ) (all rest : List Token) (meaning : Meaning) → opens ≡ place ∷ above → after ≡ room
+    → HasUnit opens room all rest meaning → HasUnit (place ∷ above) after all rest meaning
+unit-in opens above place room after all rest meaning is same has =
+    subst (λ (n : ℕ). HasUnit (place ∷ above) n all rest meaning) (sym same) (subst (λ (os : List Open). HasUnit os room all rest meaning) is has)
+
+prefix-read : (prefix : Prefix) (room : ℕ) (inner rest : List Token) (meaning : Meaning) → IsUnit room inner rest meaning
+    → IsUnit (room + 1) (Name (prefix_word prefix) ∷ inner) rest (with_prefix prefix meaning)
+prefix-read Repeat room inner rest meaning read = repeat-read (room + 1) room (Name (codes "REPEAT") ∷ inner) inner rest meaning (repeat meaning) refl refl refl read
+prefix-read Try room inner rest meaning read = try-read (room + 1) room (Name (codes "TRY") ∷ inner) inner rest meaning (try meaning) refl refl refl read
+
+pub unit-prefixed : (prefix : Prefix) (opens above : List Open) (room after : ℕ) (all rest : List Token) (meaning : Meaning) → opens ≡ Prefixed prefix ∷ above → after ≡ room
+    → HasUnit opens room all rest meaning → HasUnit above (after + 1) all rest (with_prefix prefix meaning)
+unit-prefixed prefix opens above room after all rest meaning is same has =
+    let unit : HasUnit (Prefixed prefix ∷ above) after all rest meaning = unit-in opens above (Prefixed prefix) room after all rest meaning is same has in
+    record {
+      tokens = Name (prefix_word prefix) ∷ unit.tokens;
       opened = unit.opened;
-      read = repeat-read (room + 1) room (Name (codes "REPEAT") ∷ unit.tokens) unit.tokens rest meaning made means refl refl unit.read;
+      read = prefix-read prefix after unit.tokens rest meaning unit.read;
     }
 
-pub unit-tried : (opens above : List Open) (room after : ℕ) (all rest : List Token) (meaning made : Meaning) → opens ≡ Tried ∷ above → after ≡ room → made ≡ try meaning
-    → HasUnit opens room all rest meaning → HasUnit above (after + 1) all rest made
-unit-tried opens above room after all rest meaning made is same means has =
-    subst (λ (n : ℕ). HasUnit above (n + 1) all rest made) (sym same) (go (subst (λ (os : List Open). HasUnit os room all rest meaning) is has))
-  where
-    go : HasUnit (Tried ∷ above) room all rest meaning → HasUnit above (room + 1) all rest made
-    go unit = record {
-      tokens = Name (codes "TRY") ∷ unit.tokens;
-      opened = unit.opened;
-      read = try-read (room + 1) room (Name (codes "TRY") ∷ unit.tokens) unit.tokens rest meaning made means refl refl unit.read;
-    }
+-- a unit that is made is read
+pub made-goes : (made : Result (Tac Kept) ReadError) (result : Result Reading ReadError) (next turns : ℕ) (reader : Reader) (tokens : List TokenHere) (meaning : Meaning)
+    → result ≡ unit_made made next → Means made meaning → HasUnit (opens_of reader) reader.room (tokens_of tokens) (behind next tokens) meaning
+    → 8 * (length tokens - next) + 4 * vec_len reader.opens + 4 < turns → Goes result reader tokens turns
+made-goes (Ok unit) result next turns reader tokens meaning is means has fewer = subst (λ (r : Result Reading ReadError). Goes r reader tokens turns) (sym is) (
+  subst (λ (m : Meaning). HasUnit (opens_of reader) reader.room (tokens_of tokens) (behind next tokens) m) (sym means) has,
+  fewer,
+)
+made-goes (Err Memory) result next turns reader tokens meaning is means has fewer = subst (λ (r : Result Reading ReadError). Goes r reader tokens turns) (sym is) tt
+made-goes (Err Syntax) result next turns reader tokens meaning is means has fewer = absurd means
 
-pub unit-joins : (opens above : List Open) (room after : ℕ) (all rest : List Token) (first unit : Tac Kept) (others : Vec (Tac Kept) Global) (further : List (Tac Kept))
-    → opens ≡ Choice first others ∷ above → after ≡ room → further ≡ others.items ++ unit ∷ []
-    → HasUnit opens room all rest (expression_here unit) → HasChoice above after all rest (expression_here first) (map expression_here further)
-unit-joins opens above room after all rest first unit others further is same added has =
-    subst (λ (n : ℕ). HasChoice above n all rest (expression_here first) (map expression_here further)) (sym same)
-    (go (subst (λ (os : List Open). HasUnit os room all rest (expression_here unit)) is has))
-  where
-    go : HasUnit (Choice first others ∷ above) room all rest (expression_here unit) → HasChoice above room all rest (expression_here first) (map expression_here further)
-    go read =
-        let place = read.opened.1 in
-        record {
-          tokens = place.chain;
-          wanted = read.opened.0;
-          opened = place.before;
-          read = choice-goes-on room place.chain (Name (codes "ORELSE") ∷ read.tokens) read.tokens rest (expression_here first) others.items further unit added place.front refl read.read;
-        }
+pub unit-joins : (opens : List Open) (room : ℕ) (all rest : List Token) (first unit : Tac Kept) (others : Vec (Tac Kept) Global) (further : List (Tac Kept))
+    → further ≡ others.items ++ unit ∷ [] → HasUnit (Choice first others ∷ opens) room all rest (expression_here unit)
+    → HasChoice opens room all rest (expression_here first) (map expression_here further)
+unit-joins opens room all rest first unit others further added has =
+    let place = has.opened.1 in
+    record {
+      tokens = place.chain;
+      wanted = has.opened.0;
+      opened = place.before;
+      read = choice-goes-on room place.chain (Name (codes "ORELSE") ∷ has.tokens) has.tokens rest (expression_here first) others.items further unit added place.front refl has.read;
+    }
 
 -- a chain of ORELSE begins
-pub unit-begins : (opens above : List Open) (room after : ℕ) (all rest : List Token) (first : Meaning) (none : List (Tac Kept)) → above ≡ opens → after ≡ room → none ≡ [] → WantsChoice opens
-    → HasUnit opens room all rest first → HasChoice above after all rest first (map expression_here none)
-unit-begins opens above room after all rest first none is same empty wanted has =
-    subst (λ (n : ℕ). HasChoice above n all rest first (map expression_here none)) (sym same)
-    (subst (λ (os : List Open). HasChoice os room all rest first (map expression_here none)) (sym is) (record {
-      tokens = has.tokens;
-      wanted = wanted;
-      opened = has.opened;
-      read = choice-begins room has.tokens rest first none empty has.read;
-    }))
+pub unit-begins : (opens : List Open) (room : ℕ) (all rest : List Token) (first : Meaning) (none : List (Tac Kept)) → none ≡ [] → WantsChoice opens
+    → HasUnit opens room all rest first → HasChoice opens room all rest first (map expression_here none)
+unit-begins opens room all rest first none empty wanted has = record {
+  tokens = has.tokens;
+  wanted = wanted;
+  opened = has.opened;
+  read = choice-begins room has.tokens rest first none empty has.read;
+}
 
 -- ---- a chain of ORELSE
 
@@ -287,35 +282,28 @@ choice-whole opens room all rest first meaning others has ended means = record {
   read = choice-ended room has.tokens rest first meaning others has.read ended means;
 }
 
-pub choice-joins : (opens above : List Open) (room after : ℕ) (all rest : List Token) (first choice : Tac Kept) (links : Vec (Link Kept) Global) (further : List (Link Kept))
-    → opens ≡ Chain first links ∷ above → after ≡ room → further ≡ links.items ++ Then choice ∷ []
-    → HasChoiceWhole opens room all rest (expression_here choice) → HasChain above after all rest (expression_here first) (map joint_here further)
-choice-joins opens above room after all rest first choice links further is same added has =
-    subst (λ (n : ℕ). HasChain above n all rest (expression_here first) (map joint_here further)) (sym same)
-    (go (subst (λ (os : List Open). HasChoiceWhole os room all rest (expression_here choice)) is has))
-  where
-    go : HasChoiceWhole (Chain first links ∷ above) room all rest (expression_here choice) → HasChain above room all rest (expression_here first) (map joint_here further)
-    go read =
-        let place = read.opened.1 in
-        record {
-          tokens = place.chain;
-          wanted = read.opened.0;
-          opened = place.before;
-          read = whole-goes-on room place.chain (Name (codes "THEN") ∷ read.tokens) rest (expression_here first) links.items further (Then choice) added place.front
-              (then-read room (Name (codes "THEN") ∷ read.tokens) read.tokens rest (expression_here choice) refl read.read);
-        }
+pub choice-joins : (opens : List Open) (room : ℕ) (all rest : List Token) (first choice : Tac Kept) (links : Vec (Link Kept) Global) (further : List (Link Kept))
+    → further ≡ links.items ++ Then choice ∷ [] → HasChoiceWhole (Chain first links ∷ opens) room all rest (expression_here choice)
+    → HasChain opens room all rest (expression_here first) (map joint_here further)
+choice-joins opens room all rest first choice links further added has =
+    let place = has.opened.1 in
+    record {
+      tokens = place.chain;
+      wanted = has.opened.0;
+      opened = place.before;
+      read = whole-goes-on room place.chain (Name (codes "THEN") ∷ has.tokens) rest (expression_here first) links.items further (Then choice) added place.front
+          (then-read room (Name (codes "THEN") ∷ has.tokens) has.tokens rest (expression_here choice) refl has.read);
+    }
 
 -- a chain of THEN and THENL begins
-pub choice-begins-chain : (opens above : List Open) (room after : ℕ) (all rest : List Token) (first : Meaning) (none : List (Link Kept)) → above ≡ opens → after ≡ room → none ≡ []
-    → WantsChain opens → HasChoiceWhole opens room all rest first → HasChain above after all rest first (map joint_here none)
-choice-begins-chain opens above room after all rest first none is same empty wanted has =
-    subst (λ (n : ℕ). HasChain above n all rest first (map joint_here none)) (sym same)
-    (subst (λ (os : List Open). HasChain os room all rest first (map joint_here none)) (sym is) (record {
-      tokens = has.tokens;
-      wanted = wanted;
-      opened = has.opened;
-      read = whole-begins room has.tokens rest first none empty has.read;
-    }))
+pub choice-begins-chain : (opens : List Open) (room : ℕ) (all rest : List Token) (first : Meaning) (none : List (Link Kept)) → none ≡ [] → WantsChain opens
+    → HasChoiceWhole opens room all rest first → HasChain opens room all rest first (map joint_here none)
+choice-begins-chain opens room all rest first none empty wanted has = record {
+  tokens = has.tokens;
+  wanted = wanted;
+  opened = has.opened;
+  read = whole-begins room has.tokens rest first none empty has.read;
+}
 
 -- ---- a chain of THEN and THENL
 
@@ -448,6 +436,13 @@ list-fails opens room next tokens first tactic links each further added has no_e
     (list-so-far opens room (tokens_of tokens) (behind next tokens) first tactic links each further added has) no_end no_semicolon list rest
     (record { nested = omega (arith, nested); quotable = quotable }) same))
 
+pub list-broken-at : (error : ReadError) (opens : List Open) (room next : ℕ) (tokens : List TokenHere) (first tactic : Tac Kept) (links : Vec (Link Kept) Global) (each : Vec (Tac Kept) Global)
+    (further : List (Tac Kept)) → AddsElement (Err error) tactic each.items further next tokens
+    → HasWhole (Listed first links each ∷ opens) room (tokens_of tokens) (behind next tokens) (expression_here tactic) → ReadsTactic (Err error) tokens
+list-broken-at Memory opens room next tokens first tactic links each further refused has = tt
+list-broken-at Syntax opens room next tokens first tactic links each further refused has =
+    list-fails opens room next tokens first tactic links each (each.items ++ tactic ∷ []) refl has refused.0 refused.1
+
 pub list-closes : (opens : List Open) (room next : ℕ) (all : List Token) (first tactic : Tac Kept) (links : Vec (Link Kept) Global) (each further : Vec (Tac Kept) Global) (joints : List (Link Kept))
     (joint : Link Kept) (tokens : List TokenHere)
     → further.items ≡ each.items ++ tactic ∷ [] → joint_here joint ≡ on_each (all_expressions (map expression_here further.items)) → joints ≡ links.items ++ joint ∷ []
@@ -504,11 +499,6 @@ closes None old left items count = (
   count.1 ∙ sym count.0,
 )
 closes (Some place) old left items count = (pushed left.items old.opens.items place items, refl, count)
-
-pub unit-in : (opens above : List Open) (place : Open) (room after : ℕ) (all rest : List Token) (meaning : Meaning) → opens ≡ place ∷ above → after ≡ room
-    → HasUnit opens room all rest meaning → HasUnit (place ∷ above) after all rest meaning
-unit-in opens above place room after all rest meaning is same has =
-    subst (λ (n : ℕ). HasUnit (place ∷ above) n all rest meaning) (sym same) (subst (λ (os : List Open). HasUnit os room all rest meaning) is has)
 
 pub choice-in : (opens above : List Open) (place : Open) (room after : ℕ) (all rest : List Token) (meaning : Meaning) → opens ≡ place ∷ above → after ≡ room
     → HasChoiceWhole opens room all rest meaning → HasChoiceWhole (place ∷ above) after all rest meaning

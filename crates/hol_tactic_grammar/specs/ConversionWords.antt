@@ -19,6 +19,14 @@ conversional_of Depth = DepthConv
 conversional_of OnceDepth = OnceDepthConv
 conversional_of TopDepth = TopDepthConv
 
+-- the conversional that a word names, of those that go to all subterms
+abbrev pub depth_of_word : List ℕ → Option Prefix
+depth_of_word word =
+    if bytes_eq word (codes "SUB_CONV") then Some Sub else
+    (if bytes_eq word (codes "DEPTH_CONV") then Some Depth else
+    (if bytes_eq word (codes "ONCE_DEPTH_CONV") then Some OnceDepth else
+    (if bytes_eq word (codes "TOP_DEPTH_CONV") then Some TopDepth else None)))
+
 -- the conversional that a word names
 abbrev pub prefix_of_word : List ℕ → Option Prefix
 prefix_of_word word =
@@ -26,11 +34,7 @@ prefix_of_word word =
     (if bytes_eq word (codes "TRY_CONV") then Some Try else
     (if bytes_eq word (codes "RAND_CONV") then Some Rand else
     (if bytes_eq word (codes "RATOR_CONV") then Some Rator else
-    (if bytes_eq word (codes "ABS_CONV") then Some Abs else
-    (if bytes_eq word (codes "SUB_CONV") then Some Sub else
-    (if bytes_eq word (codes "DEPTH_CONV") then Some Depth else
-    (if bytes_eq word (codes "ONCE_DEPTH_CONV") then Some OnceDepth else
-    (if bytes_eq word (codes "TOP_DEPTH_CONV") then Some TopDepth else None))))))))
+    (if bytes_eq word (codes "ABS_CONV") then Some Abs else depth_of_word word))))
 
 abbrev pub single_word : Single → List ℕ
 single_word All = codes "ALL_CONV"

@@ -1,22 +1,28 @@
 -- Open places of the reader of refiner expressions: what stands before the place where it reads, and what is read there.
-use Rattle.std.specs.Prelude.{◌≡◌, ℕ, ◌+◌, ◌*◌, ◌-◌, ◌<◌, List, [], ◌∷◌, codes, map, length, reverse, Option, None, Some, Result, Ok, Err, vec_len}
+use Rattle.std.specs.Prelude.{◌≡◌, ℕ, ◌+◌, ◌*◌, ◌-◌, ◌<◌, List, [], ◌∷◌, ◌++◌, Bool, true, false, codes, map, length, reverse, Option, None, Some, Result, Ok, Err, vec_len}
+use Rattle.std.proofs.Common.{Vec, Global}
 use Rattle.hol_model.specs.declared.limits.TheConstants.{EXPRESSION_NESTING_LIMIT}
-use Rattle.hol_model.specs.declared.symbol.Symbol.TheVariants.{OpenParenthesis, OpenBracket}
+use Rattle.hol_model.specs.declared.symbol.Symbol.TheVariants.{OpenParenthesis, OpenBracket, CloseBracket, Semicolon}
 use Rattle.hol_model.specs.Texts.Token.{Token, Name, Mark}
 use Rattle.hol_model.specs.Texts.TermGrammar.{TermTree}
 use Rattle.hol_model_sessions.specs.TacticGrammar.{Tactic, TacticLinks, Tactics, TacticChoice, OtherTactics, tactic_tokens, link_tokens, first_tokens, further_tokens, choice_tokens, other_tokens}
 use Rattle.hol_tactic_exprs.specs.declared.tac.Tac.{Tac}
+use Rattle.hol_tactic_exprs.specs.declared.tac.Link.{Link}
 use Rattle.hol_syntax_grammar.specs.declared.token.Token.{Token as TokenHere}
 use Rattle.hol_syntax_grammar.specs.declared.type_reader.ReadError.{ReadError}
 use Rattle.hol_syntax_grammar.specs.declared.type_reader.ReadError.TheVariants.{Memory, Syntax}
 use Rattle.hol_syntax_grammar.specs.TermSteps.{FlatStep}
 use Rattle.hol_syntax_grammar.specs.Views.{tokens_of}
+use Rattle.hol_tactic_grammar.specs.declared.tactics.Prefix.{Prefix}
+use Rattle.hol_tactic_grammar.specs.declared.tactics.Prefix.TheVariants.{Repeat, Try}
 use Rattle.hol_tactic_grammar.specs.declared.tactic_reader.Open.{Open}
 use Rattle.hol_tactic_grammar.specs.declared.tactic_reader.Open.TheVariants as places
 use Rattle.hol_tactic_grammar.specs.declared.tactic_reader.Reading.{Reading}
 use Rattle.hol_tactic_grammar.specs.declared.tactic_reader.Reading.TheVariants.{Wanted, Unit as UnitHere, Choice, Chain, Whole}
 use Rattle.hol_tactic_grammar.specs.declared.tactic_reader.Reader.{Reader}
-use Rattle.hol_tactic_grammar.specs.Tokens.{behind}
+use Rattle.hol_tactic_grammar.specs.declared.tactic_reader.ListFront.{ListFront}
+use Rattle.hol_tactic_grammar.specs.declared.tactic_reader.ListFront.TheVariants.{Missing, Empty, Begun}
+use Rattle.hol_tactic_grammar.specs.Tokens.{behind, IsAt, IsNotAt}
 use Rattle.hol_tactic_grammar.specs.Conversions.{Without}
 use Rattle.hol_tactic_grammar.specs.Quotes.{steps_of_tree}
 use Rattle.hol_tactic_grammar.specs.Expressions.{Kept, Expressions, Joint, Links, more, link, then_on, or_else, expression_of, links_of, expressions_of, expression_of_choice, others_of}
@@ -104,11 +110,14 @@ pub record IsListPlace (room : ℕ) (tokens left : List Token) (taken : List Mea
 
 -- ---- open places, the newest first
 
+abbrev pub prefix_word : Prefix → List ℕ
+prefix_word Repeat = codes "REPEAT"
+prefix_word Try = codes "TRY"
+
 -- a chain of ORELSE may begin behind them
 abbrev pub WantsChoice : List Open → Type 0
 WantsChoice [] = Unit {0}
-WantsChoice (places.Repeated ∷ opens) = ⊥
-WantsChoice (places.Tried ∷ opens) = ⊥
+WantsChoice (places.Prefixed prefix ∷ opens) = ⊥
 WantsChoice (places.Enclosed ∷ opens) = Unit {0}
 WantsChoice (places.Choice first others ∷ opens) = ⊥
 WantsChoice (places.Chain first links ∷ opens) = Unit {0}
@@ -117,8 +126,7 @@ WantsChoice (places.Listed first links each ∷ opens) = Unit {0}
 -- a chain of THEN and THENL may begin behind them
 abbrev pub WantsChain : List Open → Type 0
 WantsChain [] = Unit {0}
-WantsChain (places.Repeated ∷ opens) = ⊥
-WantsChain (places.Tried ∷ opens) = ⊥
+WantsChain (places.Prefixed prefix ∷ opens) = ⊥
 WantsChain (places.Enclosed ∷ opens) = Unit {0}
 WantsChain (places.Choice first others ∷ opens) = ⊥
 WantsChain (places.Chain first links ∷ opens) = ⊥
@@ -147,8 +155,7 @@ pub record IsInList (Before : List Token → Type 0) (room : ℕ) (tokens : List
 -- where all tokens are to be an expression and these places are open, a unit is wanted at the front of the tokens, nested no deeper than the room
 abbrev pub AreOpen : List Open → ℕ → List Token → List Token → Type 0
 AreOpen [] room all tokens = (room ≡ EXPRESSION_NESTING_LIMIT) × (tokens ≡ all)
-AreOpen (places.Repeated ∷ opens) room all tokens = AreOpen opens (room + 1) all (Name (codes "REPEAT") ∷ tokens)
-AreOpen (places.Tried ∷ opens) room all tokens = AreOpen opens (room + 1) all (Name (codes "TRY") ∷ tokens)
+AreOpen (places.Prefixed prefix ∷ opens) room all tokens = AreOpen opens (room + 1) all (Name (prefix_word prefix) ∷ tokens)
 AreOpen (places.Enclosed ∷ opens) room all tokens = AreOpen opens (room + 1) all (Mark OpenParenthesis ∷ tokens)
 AreOpen (places.Choice first others ∷ opens) room all tokens =
     WantsChoice opens × IsBehindOrElse (AreOpen opens room all) room tokens (expression_here first) (map expression_here others.items)
@@ -236,6 +243,34 @@ abbrev pub Closes : Option Open → Reader → Reader → Type 0
 Closes None old new = (opens_of old ≡ []) × (opens_of new ≡ []) × (new.room ≡ old.room) × (vec_len new.opens ≡ vec_len old.opens)
 Closes (Some place) old new = (opens_of old ≡ place ∷ opens_of new) × (new.room ≡ old.room) × (vec_len new.opens + 1 ≡ vec_len old.opens)
 
+-- what stands behind THENL: no list for which there is room, an empty one, or the front of another
+abbrev pub IsListFrontAt : ListFront → ℕ → ℕ → List TokenHere → Type 0
+IsListFrontAt Missing room at tokens = 0 < room → IsNotAt (Mark OpenBracket) (at + 1) tokens
+IsListFrontAt Empty room at tokens = (0 < room) × IsAt (Mark OpenBracket) (at + 1) tokens × IsAt (Mark CloseBracket) (at + 2) tokens
+IsListFrontAt Begun room at tokens = (0 < room) × IsAt (Mark OpenBracket) (at + 1) tokens × IsNotAt (Mark CloseBracket) (at + 2) tokens
+
+-- one more stands at the end
+abbrev pub Adds : {A : Type 0} → Result Unit ReadError → A → List A → List A → Type 0
+Adds (Ok done) item old new = new ≡ old ++ item ∷ []
+Adds (Err Memory) item old new = Unit {0}
+Adds (Err Syntax) item old new = ⊥
+
+-- the list has one more refiner, and goes on or ends
+abbrev pub AddsElement : Result Bool ReadError → Tac Kept → List (Tac Kept) → List (Tac Kept) → ℕ → List TokenHere → Type 0
+AddsElement (Ok true) tactic old new next tokens = (new ≡ old ++ tactic ∷ []) × IsAt (Mark Semicolon) next tokens
+AddsElement (Ok false) tactic old new next tokens = (new ≡ old ++ tactic ∷ []) × IsAt (Mark CloseBracket) next tokens
+AddsElement (Err Memory) tactic old new next tokens = Unit {0}
+AddsElement (Err Syntax) tactic old new next tokens = IsNotAt (Mark CloseBracket) next tokens × IsNotAt (Mark Semicolon) next tokens
+
+-- a chain is read whose last link is this
+abbrev pub IsChainWith : Tac Kept → Vec (Link Kept) Global → Link Kept → ℕ → Reader → List TokenHere → Type 0
+IsChainWith first links last next reader tokens = (all : List (Link Kept)) → all ≡ links.items ++ last ∷ []
+    → HasChain (opens_of reader) reader.room (tokens_of tokens) (behind next tokens) (expression_here first) (map joint_here all)
+
 abbrev pub unit_read : Result (Tac Kept × ℕ) ReadError → Result Reading ReadError
 unit_read (Ok x) = Ok (UnitHere x.0 x.1)
 unit_read (Err error) = Err error
+
+abbrev pub unit_made : Result (Tac Kept) ReadError → ℕ → Result Reading ReadError
+unit_made (Ok tactic) next = Ok (UnitHere tactic next)
+unit_made (Err error) next = Err error

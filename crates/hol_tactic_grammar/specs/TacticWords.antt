@@ -52,6 +52,16 @@ start_word (OfNamed tactic) = named_word (named_of tactic)
 start_word (OfQuoted tactic) = quoted_word (quoted_of tactic)
 start_word (OfOther word) = other_word word
 
+-- the refiner without arguments, of a connective or a quantifier, that a word names
+abbrev pub connective_of_word : List ℕ → Option Plain
+connective_of_word word =
+    if bytes_eq word (codes "CONJ_TAC") then Some Conj else
+    (if bytes_eq word (codes "EQ_TAC") then Some Eq else
+    (if bytes_eq word (codes "DISJ1_TAC") then Some Disj1 else
+    (if bytes_eq word (codes "DISJ2_TAC") then Some Disj2 else
+    (if bytes_eq word (codes "DISCH_TAC") then Some Disch else
+    (if bytes_eq word (codes "GEN_TAC") then Some Gen else None)))))
+
 -- the refiner without arguments that a word names
 abbrev pub plain_of_word : List ℕ → Option Plain
 plain_of_word word =
@@ -59,13 +69,7 @@ plain_of_word word =
     (if bytes_eq word (codes "NO_TAC") then Some No else
     (if bytes_eq word (codes "ASSUMPTION_TAC") then Some Assumption else
     (if bytes_eq word (codes "REFL_TAC") then Some Refl else
-    (if bytes_eq word (codes "CONJ_TAC") then Some Conj else
-    (if bytes_eq word (codes "EQ_TAC") then Some Eq else
-    (if bytes_eq word (codes "DISJ1_TAC") then Some Disj1 else
-    (if bytes_eq word (codes "DISJ2_TAC") then Some Disj2 else
-    (if bytes_eq word (codes "DISCH_TAC") then Some Disch else
-    (if bytes_eq word (codes "GEN_TAC") then Some Gen else
-    (if bytes_eq word (codes "TAUT_TAC") then Some Taut else None))))))))))
+    (if bytes_eq word (codes "TAUT_TAC") then Some Taut else connective_of_word word))))
 
 -- the refiner with a name that a word names
 abbrev pub named_of_word : List ℕ → Option Named

@@ -17,7 +17,9 @@ use Rattle.hol_syntax_grammar.specs.Views.{tokens_of}
 use Rattle.hol_tactic_grammar.specs.Tokens.{behind}
 use Rattle.hol_tactic_grammar.specs.Conversions.{Without, Reaches}
 use Rattle.hol_tactic_grammar.specs.Quotes.{steps_of_tree}
-use Rattle.hol_tactic_grammar.specs.Expressions.{Kept, Expression, Expressions, Joint, on_all, on_each, expression_of, expressions_of, expression_of_choice, expression_of_unit, expression_here}
+use Rattle.hol_tactic_grammar.specs.declared.tactics.Prefix.{Prefix}
+use Rattle.hol_tactic_grammar.specs.declared.tactics.Prefix.TheVariants.{Repeat, Try}
+use Rattle.hol_tactic_grammar.specs.Expressions.{Kept, Expression, Expressions, Joint, on_all, on_each, expression_of, expressions_of, expression_of_choice, expression_of_unit, expression_here, repeat, try}
 
 -- what an expression means, its quoted terms by their steps
 abbrev pub Meaning : Type 0
@@ -153,6 +155,11 @@ abbrev pub ReadsUnit : Result (Tac Kept × ℕ) ReadError → ℕ → ℕ → Li
 ReadsUnit (Ok x) at room tokens = Reaches at x.1 tokens × IsUnit room (behind at tokens) (behind x.1 tokens) (expression_here x.0)
 ReadsUnit (Err Memory) at room tokens = Unit {0}
 ReadsUnit (Err Syntax) at room tokens = IsNoUnit room (behind at tokens)
+
+-- what a prefix makes of an expression
+abbrev pub with_prefix : Prefix → Meaning → Meaning
+with_prefix Repeat meaning = repeat meaning
+with_prefix Try meaning = try meaning
 
 -- the expression means this, or memory is short
 abbrev pub Means : Result (Tac Kept) ReadError → Meaning → Type 0

@@ -1,6 +1,6 @@
 // The words of conversions.
 ghost use Rattle.std.specs.Prelude.{◌≡◌};
-ghost use Rattle.hol_tactic_grammar.specs.ConversionWords.{prefix_of_word, single_of_word};
+ghost use Rattle.hol_tactic_grammar.specs.ConversionWords.{prefix_of_word, depth_of_word, single_of_word};
 
 use hol_tactic_exprs::Prefix;
 
@@ -12,6 +12,23 @@ pub enum Single {
     Beta,
     Rewr,
     Host,
+}
+
+// The conversional that a word names, of those that go to all subterms.
+fn depth_named(word: &str) -> Option<Prefix>
+    ensures { result ≡ depth_of_word word.now }
+{
+    if word == "SUB_CONV" {
+        Some(Prefix::Sub)
+    } else if word == "DEPTH_CONV" {
+        Some(Prefix::Depth)
+    } else if word == "ONCE_DEPTH_CONV" {
+        Some(Prefix::OnceDepth)
+    } else if word == "TOP_DEPTH_CONV" {
+        Some(Prefix::TopDepth)
+    } else {
+        None
+    }
 }
 
 /// The conversional that a word names.
@@ -28,16 +45,8 @@ pub fn prefix_named(word: &str) -> Option<Prefix>
         Some(Prefix::Rator)
     } else if word == "ABS_CONV" {
         Some(Prefix::Abs)
-    } else if word == "SUB_CONV" {
-        Some(Prefix::Sub)
-    } else if word == "DEPTH_CONV" {
-        Some(Prefix::Depth)
-    } else if word == "ONCE_DEPTH_CONV" {
-        Some(Prefix::OnceDepth)
-    } else if word == "TOP_DEPTH_CONV" {
-        Some(Prefix::TopDepth)
     } else {
-        None
+        depth_named(word)
     }
 }
 

@@ -1,16 +1,16 @@
 // Refiner expressions, read from tokens by one loop over open places.
-ghost use Rattle.std.specs.Prelude.{◌≡◌, ◌≤◌, ℕ, ◌+◌, ◌-◌, ◌*◌, List, ◌∷◌, codes, length, vec_len};
+ghost use Rattle.std.specs.Prelude.{◌≡◌, ◌≤◌, ℕ, ◌+◌, ◌-◌, ◌*◌, List, ◌∷◌, MatchBool, codes, length, vec_len};
 ghost use Rattle.hol_model.specs.Texts.Token.{Name};
 ghost use Rattle.hol_syntax_grammar.specs.declared.token.Token.{Token};
 ghost use Rattle.hol_syntax_grammar.specs.Views.{tokens_of};
 ghost use Rattle.hol_tactic_grammar.specs.Tokens.{AreTokens, IsAt, behind};
 ghost use Rattle.hol_tactic_grammar.specs.Expressions.{expression_here};
 ghost use Rattle.hol_tactic_grammar.specs.Tactics.{ReadsTactic};
-ghost use Rattle.hol_tactic_grammar.specs.OpenTactics.{WantsChoice, WantsChain, HasUnit, HasChoiceWhole, HasWhole, opens_of, IsReading, turns_left, Goes, Waits, Nests, Closes, unit_read};
+ghost use Rattle.hol_tactic_grammar.specs.OpenTactics.{WantsChoice, WantsChain, HasUnit, HasChoiceWhole, HasWhole, opens_of, IsReading, turns_left, Goes, Waits, Nests, Closes, IsListFrontAt, Adds, AddsElement, IsChainWith, unit_read, unit_made};
 
 use crate::leaves::{read_by_name, read_by_quote, read_conv_tac, read_plain, read_rewrite_tac};
 use crate::tactic_words::{Other, Start, start_named};
-use crate::tactics::{or_else, repeated, then_on, tried};
+use crate::tactics::{Prefix, or_else, prefixed, then_on};
 use crate::tokens::{is_mark, is_word, name_at};
 use hol_model::{EXPRESSION_NESTING_LIMIT, Symbol};
 use hol_syntax_grammar::{ReadError, TermStep, Token};
@@ -24,10 +24,8 @@ type Joint<'a> = Link<Vec<TermStep<'a>>>;
 // An open place: what waits for what stands behind it.
 #[derive(Drop)]
 enum Open<'a> {
-    // REPEAT.
-    Repeated,
-    // TRY.
-    Tried,
+    // REPEAT or TRY.
+    Prefixed(Prefix),
     // A parenthesis.
     Enclosed,
     // What stands before an ORELSE.
@@ -53,6 +51,17 @@ enum Reading<'a> {
     Whole(Refiner<'a>),
 }
 
+// What stands behind THENL.
+#[derive(Clone, Copy, Drop)]
+enum ListFront {
+    // No list, or one that nests too deep.
+    Missing,
+    // A list of none.
+    Empty,
+    // The bracket that opens a list of some.
+    Begun,
+}
+
 #[derive(Drop)]
 struct Reader<'a> {
     opens: Vec<Open<'a>>,
@@ -74,6 +83,8 @@ impl<'a> Reader<'a> {
         ensures { Nests result self.old self.new place.entry next }
     {
         if self.room == 0 {
+            // A call: what the return itself lets go is proved variant by variant.
+            drop(place);
             return Err(ReadError::Syntax);
         }
         self.room -= 1;
@@ -108,8 +119,8 @@ impl<'a> Reader<'a> {
             return Err(ReadError::Syntax);
         };
         match start {
-            Start::OfOther(Other::Repeat) => self.nest(Open::Repeated, at + 1),
-            Start::OfOther(Other::Try) => self.nest(Open::Tried, at + 1),
+            Start::OfOther(Other::Repeat) => self.nest(Open::Prefixed(Prefix::Repeat), at + 1),
+            Start::OfOther(Other::Try) => self.nest(Open::Prefixed(Prefix::Try), at + 1),
             Start::OfPlain(tactic) => read_up_to(read_plain(tokens, at, tactic)),
             Start::OfNamed(tactic) => read_up_to(read_by_name(alloc, tokens, at, tactic)),
             Start::OfQuoted(tactic) => read_up_to(read_by_quote(alloc, tokens, at, tactic)),
@@ -119,6 +130,16 @@ impl<'a> Reader<'a> {
             Start::OfOther(Other::Rewrite) => {
                 read_up_to(read_rewrite_tac(alloc, tokens, at, self.room))
             }
+        }
+    }
+
+    // Whether a unit begins a chain of ORELSE: the newest open place takes no unit.
+    fn begins_choice(&self) -> bool
+        ensures { MatchBool result (WantsChoice (opens_of self.now)) (WantsChoice (opens_of self.now) → ⊥) }
+    {
+        match self.opens.last() {
+            Some(Open::Prefixed(_) | Open::Choice(_, _)) => false,
+            Some(Open::Enclosed | Open::Chain(_, _) | Open::Listed(_, _, _)) | None => true,
         }
     }
 
@@ -133,50 +154,19 @@ impl<'a> Reader<'a> {
         ensures { (tokens : List Token) → IsReading (Reading.Unit unit.entry next) self.old tokens
             → Goes result self.new tokens (turns_left (Reading.Unit unit.entry next) self.old tokens) }
     {
-        match self.close() {
-            Some(Open::Repeated) => {
-                self.room += 1;
-                match repeated(alloc, unit) {
-                    Ok(unit) => Ok(Reading::Unit(unit, next)),
-                    Err(_) => Err(ReadError::Memory),
-                }
-            }
-            Some(Open::Tried) => {
-                self.room += 1;
-                match tried(alloc, unit) {
-                    Ok(unit) => Ok(Reading::Unit(unit, next)),
-                    Err(_) => Err(ReadError::Memory),
-                }
-            }
-            Some(Open::Choice(first, mut others)) => {
-                others.push(unit)?;
-                Ok(Reading::Choice(first, others, next))
-            }
-            Some(Open::Enclosed) => self.begin_choice(alloc, Open::Enclosed, unit, next),
-            Some(Open::Chain(first, links)) => {
-                self.begin_choice(alloc, Open::Chain(first, links), unit, next)
-            }
-            Some(Open::Listed(first, links, each)) => {
-                self.begin_choice(alloc, Open::Listed(first, links, each), unit, next)
-            }
-            None => Ok(Reading::Choice(unit, Vec::new(alloc), next)),
+        if self.begins_choice() {
+            return Ok(Reading::Choice(unit, Vec::new(alloc), next));
         }
-    }
-
-    // A chain of ORELSE begins behind a place, which stays open.
-    fn begin_choice(
-        &mut self,
-        alloc: Global,
-        place: Open<'a>,
-        unit: Refiner<'a>,
-        next: usize,
-    ) -> Result<Reading<'a>, ReadError>
-        ensures { (tokens : List Token) → WantsChoice (place.entry ∷ opens_of self.old)
-            → HasUnit (place.entry ∷ opens_of self.old) self.old.room (tokens_of tokens) (behind next tokens) (expression_here unit.entry)
-            → Goes result self.new tokens (8 * (length tokens - next) + 4 * vec_len self.old.opens + 8) }
-    {
-        self.opens.push(place)?;
-        Ok(Reading::Choice(unit, Vec::new(alloc), next))
+        match self.close() {
+            Some(Open::Prefixed(prefix)) => {
+                self.room += 1;
+                unit_made(prefixed(alloc, prefix, unit), next)
+            }
+            Some(Open::Choice(first, others)) => choice_with(first, others, unit, next),
+            Some(Open::Enclosed | Open::Chain(_, _) | Open::Listed(_, _, _)) | None => {
+                unreachable!()
+            }
+        }
     }
 
     // A chain of ORELSE is read, and goes on or ends.
@@ -201,6 +191,16 @@ impl<'a> Reader<'a> {
         }
     }
 
+    // Whether a chain of ORELSE begins one of THEN and THENL: the newest open place takes no chain of ORELSE.
+    fn begins_chain(&self) -> bool
+        ensures { MatchBool result (WantsChain (opens_of self.now)) (WantsChain (opens_of self.now) → ⊥) }
+    {
+        match self.opens.last() {
+            Some(Open::Prefixed(_) | Open::Choice(_, _) | Open::Chain(_, _)) => false,
+            Some(Open::Enclosed | Open::Listed(_, _, _)) | None => true,
+        }
+    }
+
     // A chain of ORELSE has ended: a chain of THEN and THENL takes it, or begins.
     fn end_choice(
         &mut self,
@@ -212,34 +212,13 @@ impl<'a> Reader<'a> {
         ensures { (tokens : List Token) → HasChoiceWhole (opens_of self.old) self.old.room (tokens_of tokens) (behind next tokens) (expression_here choice.entry)
             → Goes result self.new tokens (8 * (length tokens - next) + 4 * vec_len self.old.opens + 3) }
     {
-        match self.close() {
-            Some(Open::Chain(first, mut links)) => {
-                links.push(Link::Then(choice))?;
-                Ok(Reading::Chain(first, links, next))
-            }
-            Some(Open::Enclosed) => self.begin_chain(alloc, Open::Enclosed, choice, next),
-            Some(Open::Listed(first, links, each)) => {
-                self.begin_chain(alloc, Open::Listed(first, links, each), choice, next)
-            }
-            Some(Open::Repeated | Open::Tried | Open::Choice(_, _)) => unreachable!(),
-            None => Ok(Reading::Chain(choice, Vec::new(alloc), next)),
+        if self.begins_chain() {
+            return Ok(Reading::Chain(choice, Vec::new(alloc), next));
         }
-    }
-
-    // A chain of THEN and THENL begins behind a place, which stays open.
-    fn begin_chain(
-        &mut self,
-        alloc: Global,
-        place: Open<'a>,
-        choice: Refiner<'a>,
-        next: usize,
-    ) -> Result<Reading<'a>, ReadError>
-        ensures { (tokens : List Token) → WantsChain (place.entry ∷ opens_of self.old)
-            → HasChoiceWhole (place.entry ∷ opens_of self.old) self.old.room (tokens_of tokens) (behind next tokens) (expression_here choice.entry)
-            → Goes result self.new tokens (8 * (length tokens - next) + 4 * vec_len self.old.opens + 7) }
-    {
-        self.opens.push(place)?;
-        Ok(Reading::Chain(choice, Vec::new(alloc), next))
+        match self.close() {
+            Some(Open::Chain(first, links)) => chain_with(first, links, Link::Then(choice), next),
+            _ => unreachable!(),
+        }
     }
 
     // A chain of THEN and THENL is read, and goes on or ends.
@@ -267,30 +246,44 @@ impl<'a> Reader<'a> {
         }
     }
 
+    // What stands behind THENL.
+    fn list_front(&self, tokens: &[Token<'a>], at: usize) -> ListFront
+        requires { IsAt (Name (codes "THENL")) at tokens.now }
+        ensures { IsListFrontAt result self.now.room at tokens.now }
+    {
+        if self.room == 0 || !is_mark(tokens, at + 1, Symbol::OpenBracket) {
+            return ListFront::Missing;
+        }
+        if is_mark(tokens, at + 2, Symbol::CloseBracket) {
+            return ListFront::Empty;
+        }
+        ListFront::Begun
+    }
+
     // THENL, and the bracket that opens its list.
     fn begin_list(
         &mut self,
         alloc: Global,
         tokens: &[Token<'a>],
         first: Refiner<'a>,
-        mut links: Vec<Joint<'a>>,
+        links: Vec<Joint<'a>>,
         at: usize,
     ) -> Result<Reading<'a>, ReadError>
         requires reading { IsReading (Reading.Chain first links at) self.old tokens.now }
         requires front { IsAt (Name (codes "THENL")) at tokens.now }
         ensures { Goes result self.new tokens.now (turns_left (Reading.Chain first.entry links.entry at) self.old tokens.now) }
     {
-        if self.room == 0 {
-            return Err(ReadError::Syntax);
+        match self.list_front(tokens, at) {
+            ListFront::Missing => {
+                drop((first, links));
+                Err(ReadError::Syntax)
+            }
+            ListFront::Empty => chain_with(first, links, Link::Thenl(Vec::new(alloc)), at + 3),
+            ListFront::Begun => {
+                self.room -= 1;
+                self.wait(Open::Listed(first, links, Vec::new(alloc)), at + 2)
+            }
         }
-        if !is_mark(tokens, at + 1, Symbol::OpenBracket) {
-            return Err(ReadError::Syntax);
-        }
-        if is_mark(tokens, at + 2, Symbol::CloseBracket) {
-            links.push(Link::Thenl(Vec::new(alloc)))?;
-            return Ok(Reading::Chain(first, links, at + 3));
-        }
-        self.nest(Open::Listed(first, links, Vec::new(alloc)), at + 2)
     }
 
     // A chain of THEN and THENL has ended: a parenthesis or a list takes it, or it is all.
@@ -308,11 +301,10 @@ impl<'a> Reader<'a> {
             Some(Open::Listed(first, links, each)) => {
                 self.take_element(tokens, first, links, each, tactic, next)
             }
-            Some(Open::Repeated | Open::Tried | Open::Choice(_, _) | Open::Chain(_, _)) => {
-                unreachable!()
-            }
+            Some(Open::Prefixed(_) | Open::Choice(_, _) | Open::Chain(_, _)) => unreachable!(),
             None => {
                 if next < tokens.len() {
+                    drop(tactic);
                     return Err(ReadError::Syntax);
                 }
                 Ok(Reading::Whole(tactic))
@@ -331,6 +323,7 @@ impl<'a> Reader<'a> {
         ensures { Goes result self.new tokens.now (8 * (length tokens.now - next) + 4 * vec_len self.old.opens + 2) }
     {
         if !is_mark(tokens, next, Symbol::CloseParenthesis) {
+            drop(tactic);
             return Err(ReadError::Syntax);
         }
         self.room += 1;
@@ -342,7 +335,7 @@ impl<'a> Reader<'a> {
         &mut self,
         tokens: &[Token<'a>],
         first: Refiner<'a>,
-        mut links: Vec<Joint<'a>>,
+        links: Vec<Joint<'a>>,
         mut each: Vec<Refiner<'a>>,
         tactic: Refiner<'a>,
         next: usize,
@@ -350,16 +343,96 @@ impl<'a> Reader<'a> {
         requires { HasWhole (Open.Listed first links each ∷ opens_of self.old) self.old.room (tokens_of tokens.now) (behind next tokens.now) (expression_here tactic) }
         ensures { Goes result self.new tokens.now (8 * (length tokens.now - next) + 4 * vec_len self.old.opens + 2) }
     {
-        each.push(tactic)?;
-        if is_mark(tokens, next, Symbol::Semicolon) {
-            return self.wait(Open::Listed(first, links, each), next + 1);
+        match add_element(tokens, &mut each, tactic, next) {
+            Ok(true) => self.wait(Open::Listed(first, links, each), next + 1),
+            Ok(false) => {
+                self.room += 1;
+                chain_with(first, links, Link::Thenl(each), next + 1)
+            }
+            Err(error) => {
+                drop((first, links, each));
+                Err(error)
+            }
         }
-        if !is_mark(tokens, next, Symbol::CloseBracket) {
-            return Err(ReadError::Syntax);
+    }
+}
+
+// Adds a refiner to a list, and returns whether the list goes on behind it.
+fn add_element<'a>(
+    tokens: &[Token<'a>],
+    each: &mut Vec<Refiner<'a>>,
+    tactic: Refiner<'a>,
+    next: usize,
+) -> Result<bool, ReadError>
+    ensures { AddsElement result tactic.entry each.old.items each.new.items next tokens.now }
+{
+    each.push(tactic)?;
+    if is_mark(tokens, next, Symbol::Semicolon) {
+        return Ok(true);
+    }
+    if is_mark(tokens, next, Symbol::CloseBracket) {
+        return Ok(false);
+    }
+    Err(ReadError::Syntax)
+}
+
+// One more at the end.
+fn add<T: Drop>(items: &mut Vec<T>, item: T) -> Result<(), ReadError>
+    ensures { Adds result item items.old.items items.new.items }
+{
+    items.push(item)?;
+    Ok(())
+}
+
+// One more unit of a chain of ORELSE.
+fn choice_with<'a>(
+    first: Refiner<'a>,
+    mut others: Vec<Refiner<'a>>,
+    unit: Refiner<'a>,
+    next: usize,
+) -> Result<Reading<'a>, ReadError>
+    ensures { (reader : Reader) (tokens : List Token)
+        → HasUnit (Open.Choice first.entry others.entry ∷ opens_of reader) reader.room (tokens_of tokens) (behind next tokens) (expression_here unit.entry)
+        → Goes result reader tokens (8 * (length tokens - next) + 4 * vec_len reader.opens + 8) }
+{
+    match add(&mut others, unit) {
+        Ok(()) => Ok(Reading::Choice(first, others, next)),
+        Err(error) => {
+            drop((first, others));
+            Err(error)
         }
-        self.room += 1;
-        links.push(Link::Thenl(each))?;
-        Ok(Reading::Chain(first, links, next + 1))
+    }
+}
+
+// One more link of a chain of THEN and THENL.
+fn chain_with<'a>(
+    first: Refiner<'a>,
+    mut links: Vec<Joint<'a>>,
+    link: Joint<'a>,
+    next: usize,
+) -> Result<Reading<'a>, ReadError>
+    ensures { (reader : Reader) (tokens : List Token) → IsChainWith first.entry links.entry link.entry next reader tokens
+        → Goes result reader tokens (8 * (length tokens - next) + 4 * vec_len reader.opens + 7) }
+{
+    match add(&mut links, link) {
+        Ok(()) => Ok(Reading::Chain(first, links, next)),
+        Err(error) => {
+            drop((first, links));
+            Err(error)
+        }
+    }
+}
+
+// A unit that is made.
+fn unit_made<'a>(
+    made: Result<Refiner<'a>, ReadError>,
+    next: usize,
+) -> Result<Reading<'a>, ReadError>
+    ensures { result ≡ unit_made made.entry next }
+{
+    match made {
+        Ok(unit) => Ok(Reading::Unit(unit, next)),
+        Err(error) => Err(error),
     }
 }
 

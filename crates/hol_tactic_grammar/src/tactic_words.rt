@@ -1,6 +1,6 @@
 // The words of refiners.
 ghost use Rattle.std.specs.Prelude.{◌≡◌};
-ghost use Rattle.hol_tactic_grammar.specs.TacticWords.{plain_of_word, named_of_word, quoted_of_word, other_of_word, start_of_word};
+ghost use Rattle.hol_tactic_grammar.specs.TacticWords.{plain_of_word, connective_of_word, named_of_word, quoted_of_word, other_of_word, start_of_word};
 
 /// A refiner without arguments.
 #[derive(Clone, Copy, Drop)]
@@ -54,6 +54,27 @@ pub enum Start {
     OfOther(Other),
 }
 
+// The refiner without arguments, of a connective or a quantifier, that a word names.
+fn connective_named(word: &str) -> Option<Plain>
+    ensures { result ≡ connective_of_word word.now }
+{
+    if word == "CONJ_TAC" {
+        Some(Plain::Conj)
+    } else if word == "EQ_TAC" {
+        Some(Plain::Eq)
+    } else if word == "DISJ1_TAC" {
+        Some(Plain::Disj1)
+    } else if word == "DISJ2_TAC" {
+        Some(Plain::Disj2)
+    } else if word == "DISCH_TAC" {
+        Some(Plain::Disch)
+    } else if word == "GEN_TAC" {
+        Some(Plain::Gen)
+    } else {
+        None
+    }
+}
+
 // The refiner without arguments that a word names.
 fn plain_named(word: &str) -> Option<Plain>
     ensures { result ≡ plain_of_word word.now }
@@ -66,22 +87,10 @@ fn plain_named(word: &str) -> Option<Plain>
         Some(Plain::Assumption)
     } else if word == "REFL_TAC" {
         Some(Plain::Refl)
-    } else if word == "CONJ_TAC" {
-        Some(Plain::Conj)
-    } else if word == "EQ_TAC" {
-        Some(Plain::Eq)
-    } else if word == "DISJ1_TAC" {
-        Some(Plain::Disj1)
-    } else if word == "DISJ2_TAC" {
-        Some(Plain::Disj2)
-    } else if word == "DISCH_TAC" {
-        Some(Plain::Disch)
-    } else if word == "GEN_TAC" {
-        Some(Plain::Gen)
     } else if word == "TAUT_TAC" {
         Some(Plain::Taut)
     } else {
-        None
+        connective_named(word)
     }
 }
 

@@ -1,11 +1,18 @@
 // The makers of compound refiner expressions.
 ghost use Rattle.std.specs.Prelude.{map};
-ghost use Rattle.hol_tactic_grammar.specs.Expressions.{chain, orelse, repeat, try, or_else, then_on, all_expressions, all_links, expression_here, joint_here};
-ghost use Rattle.hol_tactic_grammar.specs.Tactics.{Means};
+ghost use Rattle.hol_tactic_grammar.specs.Expressions.{chain, orelse, or_else, then_on, all_expressions, all_links, expression_here, joint_here};
+ghost use Rattle.hol_tactic_grammar.specs.Tactics.{Means, with_prefix};
 
 use hol_syntax_grammar::{ReadError, TermStep};
 use hol_tactic_exprs::{Link, Tac};
 use std::alloc::Global;
+
+/// What may stand before a refiner.
+#[derive(Clone, Copy, Drop)]
+pub enum Prefix {
+    Repeat,
+    Try,
+}
 
 // The first and the others, by ORELSE.
 #[tactic(auto, using(crate::proofs::Rows::orelse_means))]
@@ -65,22 +72,17 @@ pub fn then_on<'a>(
     }
 }
 
-/// REPEAT.
-pub fn repeated<'a>(
+/// The refiner behind a prefix.
+pub fn prefixed<'a>(
     alloc: Global,
+    prefix: Prefix,
     tactic: Tac<Vec<TermStep<'a>>>,
 ) -> Result<Tac<Vec<TermStep<'a>>>, ReadError>
-    ensures { Means result (repeat (expression_here tactic.entry)) }
+    ensures { Means result (with_prefix prefix (expression_here tactic.entry)) }
 {
-    Ok(Tac::Repeat(Box::new(alloc, tactic)?))
-}
-
-/// TRY.
-pub fn tried<'a>(
-    alloc: Global,
-    tactic: Tac<Vec<TermStep<'a>>>,
-) -> Result<Tac<Vec<TermStep<'a>>>, ReadError>
-    ensures { Means result (try (expression_here tactic.entry)) }
-{
-    Ok(Tac::Try(Box::new(alloc, tactic)?))
+    let inner = Box::new(alloc, tactic)?;
+    match prefix {
+        Prefix::Repeat => Ok(Tac::Repeat(inner)),
+        Prefix::Try => Ok(Tac::Try(inner)),
+    }
 }

@@ -3,11 +3,12 @@ use Rattle.std.specs.Prelude.{codes}
 use Rattle.hol_model.specs.declared.symbol.Symbol.TheVariants.{OpenParenthesis}
 use Rattle.hol_model.specs.Texts.Token.{Name, Mark}
 use Rattle.hol_syntax_grammar.specs.Views.{tokens_of}
-use Rattle.hol_tactic_grammar.specs.declared.tactic_reader.Open.TheVariants.{Repeated, Tried, Enclosed}
+use Rattle.hol_tactic_grammar.specs.declared.tactic_reader.Open.TheVariants.{Prefixed, Enclosed}
+use Rattle.hol_tactic_grammar.specs.declared.tactics.Prefix.TheVariants.{Repeat, Try}
 use Rattle.hol_tactic_grammar.specs.Tokens.{behind, IsAt}
 use Rattle.hol_tactic_grammar.specs.OpenTactics.{opens_of}
 use Rattle.hol_tactic_grammar.proofs.LeafLemmas.{no-unit, no-unit-word}
-use Rattle.hol_tactic_grammar.proofs.OpenTacticLemmas.{unit-fails, begins, enclosed-deep, repeat-deep, try-deep, leaf-goes}
+use Rattle.hol_tactic_grammar.proofs.OpenTacticLemmas.{unit-fails, begins, enclosed-deep, prefix-deep, leaf-goes}
 use Rattle.hol_tactic_grammar.proofs.tactic_reader.Reader.begin.Goals as goal
 
 pub returns-then-is_mark : goal.returns-then-is_mark
@@ -32,14 +33,14 @@ returns-in_default-start_named c =
 pub returns-in-OfOther-Repeat : goal.returns-in-OfOther-Repeat
 returns-in-OfOther-Repeat c =
     let front : IsAt (Name (codes "REPEAT")) c.args.at c.args.tokens.now = search rules in
-    begins c.nest-in-OfOther-Repeat.result c.args.self.now c.nest-in-OfOther-Repeat.new.self Repeated (Name (codes "REPEAT")) c.args.at c.args.tokens.now (λ room inner opened. opened)
-    repeat-deep c.nest-in-OfOther-Repeat.ensures c.requires.reading front
+    begins c.nest-in-OfOther-Repeat.result c.args.self.now c.nest-in-OfOther-Repeat.new.self (Prefixed Repeat) (Name (codes "REPEAT")) c.args.at c.args.tokens.now (λ room inner opened. opened)
+    (prefix-deep Repeat) c.nest-in-OfOther-Repeat.ensures c.requires.reading front
 
 pub returns-in-OfOther-Try : goal.returns-in-OfOther-Try
 returns-in-OfOther-Try c =
     let front : IsAt (Name (codes "TRY")) c.args.at c.args.tokens.now = search rules in
-    begins c.nest-in-OfOther-Try.result c.args.self.now c.nest-in-OfOther-Try.new.self Tried (Name (codes "TRY")) c.args.at c.args.tokens.now (λ room inner opened. opened)
-    try-deep c.nest-in-OfOther-Try.ensures c.requires.reading front
+    begins c.nest-in-OfOther-Try.result c.args.self.now c.nest-in-OfOther-Try.new.self (Prefixed Try) (Name (codes "TRY")) c.args.at c.args.tokens.now (λ room inner opened. opened)
+    (prefix-deep Try) c.nest-in-OfOther-Try.ensures c.requires.reading front
 
 pub returns-in-OfPlain : goal.returns-in-OfPlain
 returns-in-OfPlain c =
