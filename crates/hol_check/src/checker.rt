@@ -31,10 +31,7 @@ pub fn check<R: Source>(alloc: Global, reader: &mut R) -> Result<Vec<Claim>, Fau
 {
     accepted_logs_are_sound();
     accepted_claims_hold();
-    let log = match read_log(alloc, reader) {
-        Ok(log) => Rc::new(alloc, log)?,
-        Err(fault) => return Err(fault),
-    };
+    let log = Rc::new(alloc, read_log(alloc, reader)?)?;
     claims_of(alloc, log)
 }
 
@@ -60,14 +57,8 @@ pub fn check_log<R: Source>(alloc: Global, reader: &mut R) -> Result<CheckedLog,
 {
     accepted_logs_are_sound();
     accepted_claims_hold();
-    let log = match read_log(alloc, reader) {
-        Ok(log) => Rc::new(alloc, log)?,
-        Err(fault) => return Err(fault),
-    };
-    let entries = match entries_of(alloc, log.clone()?) {
-        Ok(entries) => entries,
-        Err(fault) => return Err(fault),
-    };
+    let log = Rc::new(alloc, read_log(alloc, reader)?)?;
+    let entries = entries_of(alloc, log.clone()?)?;
     match claims_of(alloc, log) {
         Ok(claims) => Ok(CheckedLog { claims, entries }),
         Err(fault) => Err(fault),

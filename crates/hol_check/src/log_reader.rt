@@ -134,11 +134,11 @@ fn read_lines<R: Source>(
     let mut line = Vec::new(alloc);
     let mut number = 2u64;
     loop {
-        match read_next(alloc, reader, reading, log, &mut line, number) {
-            Ok(true) => number += 1,
-            Ok(false) => return Ok(()),
-            Err(fault) => return Err(fault),
+        let more = read_next(alloc, reader, reading, log, &mut line, number)?;
+        if !more {
+            return Ok(());
         }
+        number += 1;
     }
 }
 
@@ -158,10 +158,7 @@ fn begin<R: Source>(alloc: Global, reader: &mut R, reading: &mut Reading) -> Res
     ensures refusals { IfErr result IsRefusal }
 {
     let mut line = Vec::new(alloc);
-    let is_line = match reading.next_line(reader, &mut line) {
-        Ok(is_line) => is_line,
-        Err(fault) => return Err(fault),
-    };
+    let is_line = reading.next_line(reader, &mut line)?;
     match header(alloc, line.as_slice()) {
         Ok(Some(version)) => {
             if !is_line {
@@ -201,10 +198,7 @@ pub(crate) fn read_log<R: Source>(alloc: Global, reader: &mut R) -> Result<Log, 
     ensures refusals { IfErr result IsRefusal }
 {
     let mut reading = Reading::new();
-    let mut log = match begin(alloc, reader, &mut reading) {
-        Ok(log) => log,
-        Err(fault) => return Err(fault),
-    };
+    let mut log = begin(alloc, reader, &mut reading)?;
     match read_lines(alloc, reader, &mut reading, &mut log) {
         Ok(()) => Ok(log),
         Err(fault) => Err(fault),

@@ -51,14 +51,8 @@ fn migration<R: Source>(alloc: Global, reader: &mut R) -> Result<(Vec<Claim>, Ve
 {
     reading_is_exact();
     migration_keeps_claims();
-    let mut text = match read_all(alloc, reader) {
-        Ok(text) => text,
-        Err(fault) => return Err(fault),
-    };
-    let claims = match check_text(alloc, text.as_slice()) {
-        Ok(claims) => claims,
-        Err(fault) => return Err(fault),
-    };
+    let mut text = read_all(alloc, reader)?;
+    let claims = check_text(alloc, text.as_slice())?;
     set_second_version(&mut text);
     Ok((claims, text))
 }
@@ -89,10 +83,7 @@ pub fn migrate<R: Source, W: Sink>(
     ensures memory { IsErrOf result Memory → StaysWithin (R.remaining reader.old) (R.remaining reader.new) }
     ensures refusals { IfErr result IsMigrationRefusal }
 {
-    let (claims, text) = match migration(alloc, reader) {
-        Ok(answer) => answer,
-        Err(fault) => return Err(fault),
-    };
+    let (claims, text) = migration(alloc, reader)?;
     match write_all(writer, text.as_slice()) {
         Ok(()) => Ok(claims),
         Err(fault) => Err(fault),

@@ -58,10 +58,7 @@ pub fn write_claims<W: Sink>(alloc: Global, claims: &[Claim], writer: &mut W) ->
     ensures refusals { IfErr result (Contains (WriteFault ∷ Memory ∷ [])) }
 {
     for claim in claims {
-        match write_claim(alloc, claim, writer) {
-            Ok(()) => {}
-            Err(fault) => return Err(fault),
-        }
+        write_claim(alloc, claim, writer)?;
     }
     Ok(())
 }
@@ -98,10 +95,7 @@ pub fn write_entries<W: Sink>(
     ensures refusals { IfErr result (Contains (WriteFault ∷ Memory ∷ [])) }
 {
     for entry in entries {
-        match write_entry(alloc, entry, writer) {
-            Ok(()) => {}
-            Err(fault) => return Err(fault),
-        }
+        write_entry(alloc, entry, writer)?;
     }
     Ok(())
 }

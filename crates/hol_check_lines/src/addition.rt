@@ -124,13 +124,9 @@ fn declare_constant(
     if contents.entries.reserve(1).is_err() {
         return Err(Fault::Memory);
     }
-    match add_constant(&mut contents.known, name, ty) {
-        Ok(()) => {
-            put_entry(&mut contents.entries, entry);
-            Ok(())
-        }
-        Err(fault) => Err(fault),
-    }
+    add_constant(&mut contents.known, name, ty)?;
+    put_entry(&mut contents.entries, entry);
+    Ok(())
 }
 
 // Adds a declared type of a new name.
@@ -143,13 +139,9 @@ fn declare_type(contents: &mut Contents, name: usize) -> Result<(), Fault>
     if contents.entries.reserve(1).is_err() {
         return Err(Fault::Memory);
     }
-    match add_type(&mut contents.known, name) {
-        Ok(()) => {
-            put_entry(&mut contents.entries, TheoryEntry::DeclaredType(name));
-            Ok(())
-        }
-        Err(fault) => Err(fault),
-    }
+    add_type(&mut contents.known, name)?;
+    put_entry(&mut contents.entries, TheoryEntry::DeclaredType(name));
+    Ok(())
 }
 
 fn add_constant_declaration(contents: &mut Contents, name: usize, ty: usize) -> Result<(), Fault>
@@ -176,8 +168,6 @@ fn add_definition(
     ensures kept { OnErr result ((table : TermTable) → IsContents table contents.old
         → CanBeAdded table contents.old (addition.Defined name ty body theorem.conclusion) → IsContents table contents.new) }
 {
-    match declare_constant(contents, TheoryEntry::Definition(name, ty, body), name, ty) {
-        Ok(()) => add_theorem(contents, theorem),
-        Err(fault) => Err(fault),
-    }
+    declare_constant(contents, TheoryEntry::Definition(name, ty, body), name, ty)?;
+    add_theorem(contents, theorem)
 }

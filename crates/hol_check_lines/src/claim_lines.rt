@@ -39,28 +39,19 @@ pub(crate) fn judge_claim(
     let Some(concluded) = term_at(contents, conclusion) else {
         return Ok(Err(Cause::Number));
     };
-    let supposed = match terms_named(alloc, terms, contents, hypotheses) {
-        Ok(Some(supposed)) => supposed,
-        Ok(None) => return Ok(Err(Cause::Number)),
-        Err(fault) => return Err(fault),
+    let Some(supposed) = terms_named(alloc, terms, contents, hypotheses)? else {
+        return Ok(Err(Cause::Number));
     };
     if !is_identifier(name) {
         return Ok(Err(Cause::Name));
     }
-    let ordered = match set_of(alloc, terms, &supposed) {
-        Ok(ordered) => ordered,
-        Err(fault) => return Err(fault),
-    };
+    let ordered = set_of(alloc, terms, &supposed)?;
     if !concludes(terms, proved, concluded, &ordered) {
         return Ok(Err(Cause::Claim));
     }
-    match terms.name(alloc, name) {
-        Ok(name) => {
-            let theorem = theorem as usize;
-            Ok(Ok(Addition::Claimed(ListedClaim { name, theorem })))
-        }
-        Err(fault) => Err(fault),
-    }
+    let name = terms.name(alloc, name)?;
+    let theorem = theorem as usize;
+    Ok(Ok(Addition::Claimed(ListedClaim { name, theorem })))
 }
 
 // Whether a theorem has this conclusion and these hypotheses, in their order.

@@ -27,10 +27,7 @@ pub(crate) fn judge_new_type(
     if !is_declared_type_name(name) {
         return Ok(Err(Cause::Name));
     }
-    let number = match terms.name(alloc, name) {
-        Ok(number) => number,
-        Err(fault) => return Err(fault),
-    };
+    let number = terms.name(alloc, name)?;
     if !is_new_name(terms, &contents.known, number) {
         return Ok(Err(Cause::Name));
     }
@@ -62,10 +59,7 @@ pub(crate) fn judge_new_constant(
     if !is_constant_name(name) {
         return Ok(Err(Cause::Name));
     }
-    let number = match terms.name(alloc, name) {
-        Ok(number) => number,
-        Err(fault) => return Err(fault),
-    };
+    let number = terms.name(alloc, name)?;
     if !is_new_name(terms, &contents.known, number) {
         return Ok(Err(Cause::Name));
     }

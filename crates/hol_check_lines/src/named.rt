@@ -31,10 +31,8 @@ pub(crate) fn make_named(
     match line {
         Line::Theorem(rule) => make_of_rule(alloc, terms, contents, rule),
         Line::Claim(_name, _theorem, conclusion, hypotheses) => {
-            match make_lines(alloc, terms, contents, hypotheses) {
-                Ok(()) => make_line(alloc, terms, contents, *conclusion),
-                Err(fault) => Err(fault),
-            }
+            make_lines(alloc, terms, contents, hypotheses)?;
+            make_line(alloc, terms, contents, *conclusion)
         }
         _ => Ok(()),
     }
@@ -77,10 +75,7 @@ fn make_lines(
     ensures refused { IfErr result (λ fault. fault ≡ Memory) }
 {
     for line in lines {
-        match make_line(alloc, terms, contents, *line) {
-            Ok(()) => {}
-            Err(fault) => return Err(fault),
-        }
+        make_line(alloc, terms, contents, *line)?;
     }
     Ok(())
 }
@@ -98,10 +93,7 @@ fn make_pairs(
     ensures refused { IfErr result (λ fault. fault ≡ Memory) }
 {
     for pair in pairs {
-        match make_pair(alloc, terms, contents, pair.0, pair.1) {
-            Ok(()) => {}
-            Err(fault) => return Err(fault),
-        }
+        make_pair(alloc, terms, contents, pair.0, pair.1)?;
     }
     Ok(())
 }
@@ -120,10 +112,8 @@ fn make_pair(
     ensures makes { Makes terms.old terms.new contents.old contents.new }
     ensures refused { IfErr result (λ fault. fault ≡ Memory) }
 {
-    match make_line(alloc, terms, contents, first) {
-        Ok(()) => make_line(alloc, terms, contents, second),
-        Err(fault) => Err(fault),
-    }
+    make_line(alloc, terms, contents, first)?;
+    make_line(alloc, terms, contents, second)
 }
 
 // Makes the term of a line, where the line is there.

@@ -280,17 +280,13 @@ fn judge_definition(
     if !is_constant_name(name) {
         return Ok(Err(Cause::Name));
     }
-    let number = match terms.name(alloc, name) {
-        Ok(number) => number,
-        Err(fault) => return Err(fault),
-    };
+    let number = terms.name(alloc, name)?;
     if !is_new_name(terms, &contents.known, number) {
         return Ok(Err(Cause::Name));
     }
-    let given = match define(alloc, terms, number, body) {
-        Ok(Ok(given)) => given,
-        Ok(Err(cause)) => return Ok(Err(cause)),
-        Err(fault) => return Err(fault),
+    let given = match define(alloc, terms, number, body)? {
+        Ok(given) => given,
+        Err(cause) => return Ok(Err(cause)),
     };
     if is_full(contents) {
         return Ok(Err(Cause::Large));

@@ -22,22 +22,16 @@ pub fn take(alloc: Global, log: &mut Log, line: &Line<'_>) -> Result<Result<(), 
     ensures taken { IfOk result (IsTaken log.old (line_of line.now) log.new) }
     ensures refused { IfErr result (λ fault. fault ≡ Memory) }
 {
-    match make_named(alloc, &mut log.table, &mut log.contents, line) {
-        Ok(()) => {}
-        Err(fault) => return Err(fault),
-    }
-    let addition = match judge(alloc, &mut log.table, &log.contents, line) {
-        Ok(Ok(addition)) => addition,
-        Ok(Err(cause)) => return Ok(Err(cause)),
-        Err(fault) => return Err(fault),
+    make_named(alloc, &mut log.table, &mut log.contents, line)?;
+    let addition = match judge(alloc, &mut log.table, &log.contents, line)? {
+        Ok(addition) => addition,
+        Err(cause) => return Ok(Err(cause)),
     };
     if ends_wrongly(&log.contents, line) {
         return Ok(Err(Cause::End));
     }
-    match add(alloc, &mut log.contents, addition) {
-        Ok(()) => Ok(Ok(())),
-        Err(fault) => Err(fault),
-    }
+    add(alloc, &mut log.contents, addition)?;
+    Ok(Ok(()))
 }
 
 // Whether a line stands after the last one, or is a last one that tells another number of claims.

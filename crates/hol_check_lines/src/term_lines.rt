@@ -35,10 +35,8 @@ pub(crate) fn judge_variable(
     if !is_identifier(name) {
         return Ok(Err(Cause::Name));
     }
-    match variable(alloc, terms, name, named) {
-        Ok(number) => judge_written(write_variable(alloc, terms, number)),
-        Err(fault) => Err(fault),
-    }
+    let number = variable(alloc, terms, name, named)?;
+    judge_written(write_variable(alloc, terms, number))
 }
 
 /// A constant: `number` where its type is not there, `name` where its name is none of a constant, `const` where it is
@@ -59,17 +57,12 @@ pub(crate) fn judge_constant(
     if !is_constant_name(name) {
         return Ok(Err(Cause::Name));
     }
-    let number = match terms.name(alloc, name) {
-        Ok(number) => number,
-        Err(fault) => return Err(fault),
-    };
+    let number = terms.name(alloc, name)?;
     if !knows_constant(terms, &contents.known, number, named) {
         return Ok(Err(Cause::Const));
     }
-    match terms.constant(number, named) {
-        Ok(number) => judge_written(write_constant(alloc, terms, number)),
-        Err(fault) => Err(fault),
-    }
+    let constant = terms.constant(number, named)?;
+    judge_written(write_constant(alloc, terms, constant))
 }
 
 /// A combination: `number` where a part is not there, `type` where the function does not take the argument, `large`

@@ -22,10 +22,8 @@ pub(crate) fn judge_type_variable(
     if !is_type_variable_name(name) {
         return Ok(Err(Cause::Name));
     }
-    match terms.type_variable(alloc, name) {
-        Ok(number) => Ok(Ok(Addition::TypeNumber(number))),
-        Err(fault) => Err(fault),
-    }
+    let number = terms.type_variable(alloc, name)?;
+    Ok(Ok(Addition::TypeNumber(number)))
 }
 
 /// The type of formulas, which is never refused.
@@ -37,10 +35,8 @@ pub(crate) fn judge_bool(
     ensures { Judges bool_line contents.now terms.old result terms.new }
 {
     let _contents = contents;
-    match terms.boolean() {
-        Ok(number) => Ok(Ok(Addition::TypeNumber(number))),
-        Err(fault) => Err(fault),
-    }
+    let number = terms.boolean()?;
+    Ok(Ok(Addition::TypeNumber(number)))
 }
 
 /// A function type: `number` where a part is not there, `large` where the type has too many nodes.
@@ -83,15 +79,10 @@ pub(crate) fn judge_declared_type(
     if !is_declared_type_name(name) {
         return Ok(Err(Cause::Name));
     }
-    let number = match terms.name(alloc, name) {
-        Ok(number) => number,
-        Err(fault) => return Err(fault),
-    };
+    let number = terms.name(alloc, name)?;
     if !is_declared(terms, &contents.known, number) {
         return Ok(Err(Cause::Kind));
     }
-    match terms.declared_type(alloc, name) {
-        Ok(number) => Ok(Ok(Addition::TypeNumber(number))),
-        Err(fault) => Err(fault),
-    }
+    let ty = terms.declared_type(alloc, name)?;
+    Ok(Ok(Addition::TypeNumber(ty)))
 }

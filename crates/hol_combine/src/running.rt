@@ -169,10 +169,7 @@ fn run_repeat<H: Refiners, L: Leaves>(
                 done,
                 above: _,
             } = frame;
-            let made = match spliced(alloc, just, done) {
-                Ok(made) => made,
-                Err(fault) => return Err(fault),
-            };
+            let made = spliced(alloc, just, done)?;
             let Some(below) = pop(&mut stack) else {
                 return Ok(made);
             };
@@ -233,14 +230,8 @@ fn run_links<H: Refiners, L: Leaves>(
     let mut step = step;
     for link in links {
         let Step { goals, just } = step;
-        let steps = match run_link(alloc, link, &goals, host, leaves, fuel) {
-            Ok(steps) => steps,
-            Err(fault) => return Err(fault),
-        };
-        step = match spliced(alloc, just, steps) {
-            Ok(step) => step,
-            Err(fault) => return Err(fault),
-        };
+        let steps = run_link(alloc, link, &goals, host, leaves, fuel)?;
+        step = spliced(alloc, just, steps)?;
     }
     Ok(step)
 }
@@ -295,10 +286,7 @@ fn run_on_all<H: Refiners, L: Leaves>(
 {
     let mut steps = Vec::new(alloc);
     for goal in goals {
-        let step = match run(alloc, tac, goal, host, leaves, fuel) {
-            Ok(step) => step,
-            Err(fault) => return Err(fault),
-        };
+        let step = run(alloc, tac, goal, host, leaves, fuel)?;
         keep(&mut steps, step)?;
     }
     Ok(steps)
@@ -326,10 +314,7 @@ fn run_on_each<H: Refiners, L: Leaves>(
     for i in 0..tacs.len() {
         let tac = &tacs[i];
         let goal = &goals[i];
-        let step = match run(alloc, tac, goal, host, leaves, fuel) {
-            Ok(step) => step,
-            Err(fault) => return Err(fault),
-        };
+        let step = run(alloc, tac, goal, host, leaves, fuel)?;
         keep(&mut steps, step)?;
     }
     Ok(steps)

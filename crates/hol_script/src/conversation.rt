@@ -56,14 +56,8 @@ fn answer_source<R: Source, W: Sink, H: Refiners>(
         if count > TEXT_BYTES_LIMIT - known {
             return Err(Fault::TooLong);
         }
-        match read.extend_from_slice(&buffer[..count]) {
-            Ok(()) => {}
-            Err(_) => return Err(Fault::Memory),
-        }
-        match course.answer_new(alloc, read, known, writer, host) {
-            Ok(()) => {}
-            Err(fault) => return Err(fault),
-        }
+        read.extend_from_slice(&buffer[..count])?;
+        course.answer_new(alloc, read, known, writer, host)?;
     }
 }
 
@@ -87,19 +81,11 @@ fn answer_input<R: Source, W: Sink, H: Refiners>(
     ensures reader_told { R.has_failed reader.new ≡ true → IsErrOf result ReadFault }
     ensures writer_told { W.has_failed writer.new ≡ true → IsErrOf result WriteFault }
 {
-    let mut course = match Course::new(alloc, wants_log) {
-        Ok(course) => course,
-        Err(fault) => return Err(fault),
-    };
+    let mut course = Course::new(alloc, wants_log)?;
     let mut read = Vec::new(alloc);
-    match answer_source(alloc, reader, &mut read, &mut course, writer, host) {
-        Ok(()) => {}
-        Err(fault) => return Err(fault),
-    }
-    match course.answer_all(alloc, &read, writer, host) {
-        Ok(()) => Ok(course.progress),
-        Err(fault) => Err(fault),
-    }
+    answer_source(alloc, reader, &mut read, &mut course, writer, host)?;
+    course.answer_all(alloc, &read, writer, host)?;
+    Ok(course.progress)
 }
 
 /// Reads commands from a source, runs each over a host's functions as soon as its `;;` has been read, and writes what `run` writes
@@ -140,10 +126,7 @@ pub fn converse<R: Source, W: Sink, L: Sink, H: Refiners>(
         ended.progress) }
     ensures manager { IfOk result (λ ended. IsManager ended.progress.manager) }
 {
-    let progress = match answer_input(alloc, reader, writer, wants_log, host) {
-        Ok(progress) => progress,
-        Err(fault) => return Err(fault),
-    };
+    let progress = answer_input(alloc, reader, writer, wants_log, host)?;
     if !wants_log {
         return Ok(Ended {
             progress,

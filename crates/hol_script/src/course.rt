@@ -37,10 +37,7 @@ impl Course {
         ensures begun { IfOk result IsBegun }
         ensures err { IfErr result (λ fault. fault ≡ Memory) }
     {
-        let mut progress = match Progress::new(alloc) {
-            Ok(progress) => progress,
-            Err(fault) => return Err(fault),
-        };
+        let mut progress = Progress::new(alloc)?;
         progress.keep_journal_if(wants_log);
         Ok(Course {
             progress,
@@ -81,10 +78,7 @@ impl Course {
         if !is_blank_text(piece) {
             let here = self.line + leading_line_feeds(piece) as u64;
             let answer = self.progress.answer(alloc, host, piece);
-            match write_answer(writer, here, &answer) {
-                Ok(()) => {}
-                Err(fault) => return Err(fault),
-            }
+            write_answer(writer, here, &answer)?;
             self.progress.keep(answer);
         }
         self.line += line_feeds(piece) as u64;
@@ -116,13 +110,8 @@ impl Course {
         ensures failed { OnErr result (W.has_failed writer.new ≡ true) }
         ensures kinds { IfErr result (λ fault. fault ≡ WriteFault) }
     {
-        loop {
-            match self.answer_next(alloc, read, writer, host) {
-                Ok(true) => {}
-                Ok(false) => return Ok(()),
-                Err(fault) => return Err(fault),
-            }
-        }
+        while self.answer_next(alloc, read, writer, host)? {}
+        Ok(())
     }
 
     /// Answers each command whose `;;` was read, where none had been read among so many of the bytes. A `;;` is sought behind
@@ -182,22 +171,15 @@ impl Course {
         ensures failed { OnErr result (W.has_failed writer.new ≡ true) }
         ensures kinds { IfErr result (λ fault. fault ≡ WriteFault) }
     {
-        match self.answer_read(alloc, read, writer, host) {
-            Ok(()) => {}
-            Err(fault) => return Err(fault),
-        }
+        self.answer_read(alloc, read, writer, host)?;
         let rest = &read[self.at..];
         if is_blank_text(rest) {
             return Ok(());
         }
         let here = self.line + leading_line_feeds(rest) as u64;
         let refused = Refused::plain(Fault::Syntax);
-        match write_refusal(writer, here, &refused) {
-            Ok(()) => {
-                self.progress.keep(Err(refused));
-                Ok(())
-            }
-            Err(fault) => Err(fault),
-        }
+        write_refusal(writer, here, &refused)?;
+        self.progress.keep(Err(refused));
+        Ok(())
     }
 }

@@ -19,9 +19,7 @@ impl Ended {
         ensures { result ≡ if_logged self.logged self.progress }
     {
         let Ended { progress, logged } = self;
-        match logged {
-            Ok(()) => Ok(progress),
-            Err(fault) => Err(fault),
-        }
+        logged?;
+        Ok(progress)
     }
 }

@@ -77,18 +77,16 @@ impl Progress {
         ensures summary { IfOk result (λ progress. progress.summary ≡ record { accepted = 0; refused = 0; printed = 0 }) }
         ensures err { IfErr result (λ fault. fault ≡ Memory) }
     {
-        match Manager::new(alloc) {
-            Ok(manager) => Ok(Progress {
-                manager,
-                names: Vec::new(alloc),
-                summary: Summary {
-                    accepted: 0,
-                    refused: 0,
-                    printed: 0,
-                },
-            }),
-            Err(fault) => Err(fault),
-        }
+        let manager = Manager::new(alloc)?;
+        Ok(Progress {
+            manager,
+            names: Vec::new(alloc),
+            summary: Summary {
+                accepted: 0,
+                refused: 0,
+                printed: 0,
+            },
+        })
     }
 
     /// Lets go of what a log is written from, where none is wanted. No contract sees a change.

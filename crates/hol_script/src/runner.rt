@@ -38,14 +38,9 @@ fn run_script<W: Sink, H: Refiners>(
     ensures unwritten { IsErrOf result Memory → writer.new ≡ writer.old }
     ensures refusals { IfErr result (Contains (WriteFault ∷ Memory ∷ [])) }
 {
-    let mut course = match Course::new(alloc, wants_log) {
-        Ok(course) => course,
-        Err(fault) => return Err(fault),
-    };
-    match course.answer_all(alloc, script, writer, host) {
-        Ok(()) => Ok(course.progress),
-        Err(fault) => Err(fault),
-    }
+    let mut course = Course::new(alloc, wants_log)?;
+    course.answer_all(alloc, script, writer, host)?;
+    Ok(course.progress)
 }
 
 /// Writes the log of the theorems that were printed.
@@ -66,10 +61,8 @@ pub(crate) fn write_log<L: Sink>(
     ensures unwritten { (IsErrOf result TooLong ⊎ IsErrOf result Memory) → log.new ≡ log.old }
     ensures refusals { IfErr result (Contains (WriteFault ∷ TooLong ∷ Memory ∷ [])) }
 {
-    match progress.log_text(alloc) {
-        Ok(text) => write_all(log, text.as_slice()),
-        Err(fault) => Err(fault),
-    }
+    let text = progress.log_text(alloc)?;
+    write_all(log, text.as_slice())
 }
 
 /// Reads a whole script, runs its commands in order over a host's functions and writes a line for each theorem and each
@@ -121,14 +114,8 @@ pub fn run<R: Source, W: Sink, L: Sink, H: Refiners>(
         ended.progress) }
     ensures manager { IfOk result (λ ended. IsManager ended.progress.manager) }
 {
-    let script = match read_all(alloc, reader) {
-        Ok(script) => script,
-        Err(fault) => return Err(fault),
-    };
-    let progress = match run_script(alloc, script.as_slice(), writer, wants_log, host) {
-        Ok(progress) => progress,
-        Err(fault) => return Err(fault),
-    };
+    let script = read_all(alloc, reader)?;
+    let progress = run_script(alloc, script.as_slice(), writer, wants_log, host)?;
     if !wants_log {
         return Ok(Ended {
             progress,

@@ -1,4 +1,5 @@
 use Rattle.std.proofs.Common.{Err, ap, ◌∙◌}
+use Rattle.std.proofs.lemmas.Result.{err_from_is_err_and}
 use Rattle.hol_model.specs.declared.fault.Fault.TheVariants.{Memory}
 use Rattle.hol_model.specs.Logs.LogState.{LogState}
 use Rattle.hol_check.specs.Reading.{read_whole}
@@ -7,25 +8,27 @@ use Rattle.hol_check.proofs.LogAnswerLemmas.{fault_is}
 use Rattle.hol_check.proofs.CheckingLemmas.{has_claims}
 use Rattle.hol_check.proofs.checker.check_log.Goals as goal
 
-pub returns-in-Ok-claims_of-clause-listed : goal.returns-in-Ok-claims_of-clause-listed
-returns-in-Ok-claims_of-clause-listed g c = record {
+pub returns-in-Ok-clause-listed : goal.returns-in-Ok-clause-listed
+returns-in-Ok-clause-listed g c = record {
   has_claims =
-      has_claims (g.R.Source.remaining c.args.reader.now) c.in-Ok.log c.in-Ok-claims_of.claims.items c.accepted_logs_are_sound.ensures c.accepted_claims_hold.ensures c.in-Ok.ensures.accepted
-      (c.in-Ok-claims_of.ensures.claims ∙ ap (λ (log : LogState). log.claims) c.in_ok-log-in-Ok.ensures.ok);
-  are_entries = c.in-Ok-entries_of.ensures.entries ∙ ap (λ (log : LogState). entries_in log.theory) (c.in_ok-clone.ensures.cases ∙ c.in_ok-log-in-Ok.ensures.ok);
+      has_claims (g.R.Source.remaining c.args.reader.now) c.in_ok-read_log.field-0 c.in-Ok.claims.items c.accepted_logs_are_sound.ensures c.accepted_claims_hold.ensures c.in_ok-read_log.ensures.accepted
+      (c.in-Ok.ensures.claims ∙ ap (λ (log : LogState). log.claims) c.in_ok-log.ensures.ok);
+  are_entries = c.in_ok-entries.ensures.entries ∙ ap (λ (log : LogState). entries_in log.theory) (c.in_ok-clone.ensures.cases ∙ c.in_ok-log.ensures.ok);
 }
 
-pub returns-in_err-log-in-Ok-clause-memory : goal.returns-in_err-log-in-Ok-clause-memory
-returns-in_err-log-in-Ok-clause-memory g c = λ wants. read_whole c.in-Ok.ensures.accepted.read
+pub returns-in_err-log-clause-memory : goal.returns-in_err-log-clause-memory
+returns-in_err-log-clause-memory g c = λ wants. read_whole c.in_ok-read_log.ensures.accepted.read
 
-pub returns-in-Err-clause-memory : goal.returns-in-Err-clause-memory
-returns-in-Err-clause-memory g c = λ wants. c.in-Err.ensures.memory (ap Err (fault_is c.in-Err.fault Memory wants))
+pub returns-in_err-read_log-clause-memory : goal.returns-in_err-read_log-clause-memory
+returns-in_err-read_log-clause-memory g c = λ wants.
+    let p = err_from_is_err_and c.from_residual.result c.from_residual.ensures.1 in
+    c.in_err-read_log.ensures.memory (ap Err (fault_is c.in_err-read_log.field-0.0 Memory (rw (p.1, p.2) at wants)))
 
 pub returns-in_err-clone-clause-memory : goal.returns-in_err-clone-clause-memory
-returns-in_err-clone-clause-memory g c = λ wants. read_whole c.in-Ok.ensures.accepted.read
+returns-in_err-clone-clause-memory g c = λ wants. read_whole c.in_ok-read_log.ensures.accepted.read
 
-pub returns-in-Err-entries_of-clause-memory : goal.returns-in-Err-entries_of-clause-memory
-returns-in-Err-entries_of-clause-memory g c = λ wants. read_whole c.in-Ok.ensures.accepted.read
+pub returns-in_err-entries-clause-memory : goal.returns-in_err-entries-clause-memory
+returns-in_err-entries-clause-memory g c = λ wants. read_whole c.in_ok-read_log.ensures.accepted.read
 
-pub returns-in-Err-claims_of-clause-memory : goal.returns-in-Err-claims_of-clause-memory
-returns-in-Err-claims_of-clause-memory g c = λ wants. read_whole c.in-Ok.ensures.accepted.read
+pub returns-in-Err-clause-memory : goal.returns-in-Err-clause-memory
+returns-in-Err-clause-memory g c = λ wants. read_whole c.in_ok-read_log.ensures.accepted.read

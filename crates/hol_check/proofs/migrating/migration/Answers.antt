@@ -5,15 +5,15 @@ use Rattle.hol_check.proofs.migrating.migration.Goals as goal
 
 pub set_second_version-requires : goal.set_second_version-requires
 set_second_version-requires g c =
-    let checked = rw c.as_slice.ensures.value at c.in-Ok-check_text.ensures.claims in
-    is_headed c.reading_is_exact.ensures c.in-Ok.text.items checked.state (text_accepted c.in-Ok.text.items c.in-Ok-check_text.claims.items checked)
+    let checked = rw c.as_slice.ensures.value at c.in_ok-claims.ensures.claims in
+    is_headed c.reading_is_exact.ensures c.in_ok-text.text.items checked.state (text_accepted c.in_ok-text.text.items c.in_ok-claims.claims.items checked)
 
 pub returns-clause-migration : goal.returns-clause-migration
 returns-clause-migration g c =
-    is_migration (g.R.Source.remaining c.args.reader.now) c.in-Ok.text.items c.set_second_version.new.text.items c.in-Ok-check_text.claims.items c.migration_keeps_claims.ensures c.in-Ok.ensures.all
-    c.in-Ok.ensures.within_limit (rw c.as_slice.ensures.value at c.in-Ok-check_text.ensures.claims) c.set_second_version.ensures
+    is_migration (g.R.Source.remaining c.args.reader.now) c.in_ok-text.text.items c.set_second_version.new.text.items c.in_ok-claims.claims.items c.migration_keeps_claims.ensures c.in_ok-text.ensures.all
+    c.in_ok-text.ensures.within_limit (rw c.as_slice.ensures.value at c.in_ok-claims.ensures.claims) c.set_second_version.ensures
 
-pub returns-in-Err-check_text-clause-memory : goal.returns-in-Err-check_text-clause-memory
-returns-in-Err-check_text-clause-memory g c = λ wants.
-    let read : IsRead (g.R.Source.remaining c.args.reader.now) c.in-Ok.text.items = record { whole = c.in-Ok.ensures.all; within_limit = c.in-Ok.ensures.within_limit } in
+pub returns-in_err-claims-clause-memory : goal.returns-in_err-claims-clause-memory
+returns-in_err-claims-clause-memory g c = λ wants.
+    let read : IsRead (g.R.Source.remaining c.args.reader.now) c.in_ok-text.text.items = record { whole = c.in_ok-text.ensures.all; within_limit = c.in_ok-text.ensures.within_limit } in
     read_whole read

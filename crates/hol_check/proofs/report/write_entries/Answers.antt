@@ -1,4 +1,5 @@
 use Rattle.std.proofs.Common.{subst}
+use Rattle.std.proofs.lemmas.Result.{err_from_is_err_and}
 use Rattle.std.specs.Io.KnownBytes.{Appends}
 use Rattle.hol_model.specs.Logic.Theory.{Entry}
 use Rattle.hol_device_io.specs.Bytes.{AppendsFront}
@@ -8,10 +9,12 @@ use Rattle.hol_check.proofs.report.write_entries.Goals as goal
 
 pub loop-entry-preserved : goal.loop-entry-preserved
 loop-entry-preserved g c =
-    let line = subst (λ (entry : Entry). Appends (g.W.Sink.contents c.loop-entry.writer) (g.W.Sink.contents c.write_entry.new.writer) (entry_line entry)) c.entry-item.is c.in-Ok.ensures.ok in
-    (line_written entry_line _ _ _ c.args.entries.now c.loop-entry.entry-index c.entry-item.result c.loop-entry-test.true c.loop-entry.invariant.0 line, c.in-Ok.ensures.unfailed)
+    let line = subst (λ (entry : Entry). Appends (g.W.Sink.contents c.loop-entry.writer) (g.W.Sink.contents c.write_entry.new.writer) (entry_line entry)) c.entry-item.is c.in_ok-write_entry.ensures.ok in
+    (line_written entry_line _ _ _ c.args.entries.now c.loop-entry.entry-index c.entry-item.result c.loop-entry-test.true c.loop-entry.invariant.0 line, c.in_ok-write_entry.ensures.unfailed)
 
-pub returns-in-Err-clause-err : goal.returns-in-Err-clause-err
-returns-in-Err-clause-err g c =
-    let line = subst (λ (entry : Entry). AppendsFront (g.W.Sink.contents c.loop-entry.writer) (g.W.Sink.contents c.write_entry.new.writer) (entry_line entry)) c.entry-item.is c.in-Err.ensures.err in
-    line_broken entry_line _ _ _ c.args.entries.now c.loop-entry.entry-index c.entry-item.result c.loop-entry-test.true c.loop-entry.invariant.0 line
+pub returns-in_err-write_entry-clause-err : goal.returns-in_err-write_entry-clause-err
+returns-in_err-write_entry-clause-err g c =
+    let p = err_from_is_err_and c.from_residual.result c.from_residual.ensures.1 in
+    let line = subst (λ (entry : Entry). AppendsFront (g.W.Sink.contents c.loop-entry.writer) (g.W.Sink.contents c.write_entry.new.writer) (entry_line entry)) c.entry-item.is c.in_err-write_entry.ensures.err in
+    rw p.1
+    (line_broken entry_line _ _ _ c.args.entries.now c.loop-entry.entry-index c.entry-item.result c.loop-entry-test.true c.loop-entry.invariant.0 line)

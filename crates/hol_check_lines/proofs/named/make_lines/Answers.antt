@@ -6,10 +6,10 @@ pub loop-line-preserved : goal.loop-line-preserved
 loop-line-preserved c =
     so-far-more (λ contents. IsMadeLine contents) line-stays c.args.lines.now c.loop-line.line-index c.args.terms.now c.loop-line.terms c.make_line.new.terms c.args.contents.now
     c.loop-line.contents c.make_line.new.contents _
-    c.loop-line.invariant c.make_line.ensures.makes c.in-Ok.ensures.made
+    c.loop-line.invariant c.make_line.ensures.makes c.in_ok-make_line.ensures.made
 
-pub returns-in-Err-clause-makes : goal.returns-in-Err-clause-makes
-returns-in-Err-clause-makes c = Makes_trans c.args.terms.now c.loop-line.terms c.make_line.new.terms c.args.contents.now c.loop-line.contents c.make_line.new.contents
+pub returns-in_err-make_line-clause-makes : goal.returns-in_err-make_line-clause-makes
+returns-in_err-make_line-clause-makes c = Makes_trans c.args.terms.now c.loop-line.terms c.make_line.new.terms c.args.contents.now c.loop-line.contents c.make_line.new.contents
     c.loop-line.invariant.makes c.make_line.ensures.makes
 
 pub returns-clause-made : goal.returns-clause-made

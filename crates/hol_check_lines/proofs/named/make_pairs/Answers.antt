@@ -7,10 +7,10 @@ pub loop-pair-preserved : goal.loop-pair-preserved
 loop-pair-preserved c =
     so-far-more (λ contents. IsMadePair contents) pair-stays c.args.pairs.now c.loop-pair.pair-index c.args.terms.now c.loop-pair.terms c.make_pair.new.terms c.args.contents.now
     c.loop-pair.contents c.make_pair.new.contents _
-    c.loop-pair.invariant c.make_pair.ensures.makes c.in-Ok.ensures.made
+    c.loop-pair.invariant c.make_pair.ensures.makes c.in_ok-make_pair.ensures.made
 
-pub returns-in-Err-clause-makes : goal.returns-in-Err-clause-makes
-returns-in-Err-clause-makes c = Makes_trans c.args.terms.now c.loop-pair.terms c.make_pair.new.terms c.args.contents.now c.loop-pair.contents c.make_pair.new.contents
+pub returns-in_err-make_pair-clause-makes : goal.returns-in_err-make_pair-clause-makes
+returns-in_err-make_pair-clause-makes c = Makes_trans c.args.terms.now c.loop-pair.terms c.make_pair.new.terms c.args.contents.now c.loop-pair.contents c.make_pair.new.contents
     c.loop-pair.invariant.makes c.make_pair.ensures.makes
 
 pub returns-clause-made : goal.returns-clause-made

@@ -13,27 +13,27 @@ returns-then-not-is_new_name c =
     let t1 = c.name.new.self in
     let named = c.in-Some.ensures t0 c.requires.contents c.requires.made in
     let legal = sym c.is_constant_name.ensures ∙ c.if-not-is_constant_name.false in
-    let new = sym (c.is_new_name.ensures _ (knows-grown t0 t1 c.in-Ok.ensures.grows _ _ _ c.requires.contents.knows)) ∙ c.if-not-is_new_name.true in
-    taken-definition t0 t1 c.args.contents.now c.requires.contents c.args.name.now c.in-Ok.number c.args.body c.in-Some.body c.in-Ok.ensures.grows c.in-Ok.ensures.number named legal new
+    let new = sym (c.is_new_name.ensures _ (knows-grown t0 t1 c.in_ok-number.ensures.grows _ _ _ c.requires.contents.knows)) ∙ c.if-not-is_new_name.true in
+    taken-definition t0 t1 c.args.contents.now c.requires.contents c.args.name.now c.in_ok-number.number c.args.body c.in-Some.body c.in_ok-number.ensures.grows c.in_ok-number.ensures.number named legal new
 
 pub define-requires-clause-name : goal.define-requires-clause-name
-define-requires-clause-name c = is_within c.name.new.self.names c.in-Ok.number _ c.in-Ok.ensures.number
+define-requires-clause-name c = is_within c.name.new.self.names c.in_ok-number.number _ c.in_ok-number.ensures.number
 
 pub define-requires-clause-body : goal.define-requires-clause-body
-define-requires-clause-body c = fitting-grown c.args.terms.now c.name.new.self c.in-Ok.ensures.grows c.in-Some.body (c.in-Some.ensures c.args.terms.now c.requires.contents c.requires.made).fits
+define-requires-clause-body c = fitting-grown c.args.terms.now c.name.new.self c.in_ok-number.ensures.grows c.in-Some.body (c.in-Some.ensures c.args.terms.now c.requires.contents c.requires.made).fits
 
-pub returns-in-Ok-Err : goal.returns-in-Ok-Err
-returns-in-Ok-Err c =
+pub returns-in-Err : goal.returns-in-Err
+returns-in-Err c =
     let t0 = c.args.terms.now in
     let t1 = c.name.new.self in
     let named = c.in-Some.ensures t0 c.requires.contents c.requires.made in
     let legal = sym c.is_constant_name.ensures ∙ c.if-not-is_constant_name.false in
-    let new = sym (c.is_new_name.ensures _ (knows-grown t0 t1 c.in-Ok.ensures.grows _ _ _ c.requires.contents.knows)) ∙ c.if-not-is_new_name.false in
-    let made = definition_step (name_at t1.names c.in-Ok.number) (term_at t1.terms c.in-Some.body) in
+    let new = sym (c.is_new_name.ensures _ (knows-grown t0 t1 c.in_ok-number.ensures.grows _ _ _ c.requires.contents.knows)) ∙ c.if-not-is_new_name.false in
+    let made = definition_step (name_at t1.names c.in_ok-number.number) (term_at t1.terms c.in-Some.body) in
     let body = term_at t1.terms c.in-Some.body in
-    let defined = subst (IsDefined made body c.define.new.terms) c.in-Ok-Err.field-0-is c.in-Ok-Err.ensures.defined in
-    refused-definition t0 t1 c.args.contents.now c.requires.contents c.args.name.now c.in-Ok.number c.args.body c.in-Some.body c.in-Ok.ensures.grows c.in-Ok.ensures.number named legal
-    c.define.new.terms c.define.ensures.grows new c.in-Ok-Err.cause defined
+    let defined = subst (IsDefined made body c.define.new.terms) c.in-Err.is c.in_ok-given.ensures.defined in
+    refused-definition t0 t1 c.args.contents.now c.requires.contents c.args.name.now c.in_ok-number.number c.args.body c.in-Some.body c.in_ok-number.ensures.grows c.in_ok-number.ensures.number named legal
+    c.define.new.terms c.define.ensures.grows new c.in-Err.cause defined
 
 pub returns-then-is_full : goal.returns-then-is_full
 returns-then-is_full c =
@@ -41,12 +41,12 @@ returns-then-is_full c =
     let t1 = c.name.new.self in
     let named = c.in-Some.ensures t0 c.requires.contents c.requires.made in
     let legal = sym c.is_constant_name.ensures ∙ c.if-not-is_constant_name.false in
-    let new = sym (c.is_new_name.ensures _ (knows-grown t0 t1 c.in-Ok.ensures.grows _ _ _ c.requires.contents.knows)) ∙ c.if-not-is_new_name.false in
-    let made = definition_step (name_at t1.names c.in-Ok.number) (term_at t1.terms c.in-Some.body) in
+    let new = sym (c.is_new_name.ensures _ (knows-grown t0 t1 c.in_ok-number.ensures.grows _ _ _ c.requires.contents.knows)) ∙ c.if-not-is_new_name.false in
+    let made = definition_step (name_at t1.names c.in_ok-number.number) (term_at t1.terms c.in-Some.body) in
     let body = term_at t1.terms c.in-Some.body in
-    let defined = subst (IsDefined made body c.define.new.terms) c.in-Ok-Ok.field-0-is c.in-Ok-Ok.ensures.defined in
-    full-definition t0 t1 c.args.contents.now c.requires.contents c.args.name.now c.in-Ok.number c.args.body c.in-Some.body c.in-Ok.ensures.grows c.in-Ok.ensures.number named legal
-    c.define.new.terms c.define.ensures.grows new c.in-Ok-Ok.given.ty c.in-Ok-Ok.given.conclusion defined (sym c.is_full.ensures ∙ c.if-is_full.true)
+    let defined = subst (IsDefined made body c.define.new.terms) c.in-Ok.is c.in_ok-given.ensures.defined in
+    full-definition t0 t1 c.args.contents.now c.requires.contents c.args.name.now c.in_ok-number.number c.args.body c.in-Some.body c.in_ok-number.ensures.grows c.in_ok-number.ensures.number named legal
+    c.define.new.terms c.define.ensures.grows new c.in-Ok.given.ty c.in-Ok.given.conclusion defined (sym c.is_full.ensures ∙ c.if-is_full.true)
 
 pub returns : goal.returns
 returns c =
@@ -54,12 +54,12 @@ returns c =
     let t1 = c.name.new.self in
     let named = c.in-Some.ensures t0 c.requires.contents c.requires.made in
     let legal = sym c.is_constant_name.ensures ∙ c.if-not-is_constant_name.false in
-    let new = sym (c.is_new_name.ensures _ (knows-grown t0 t1 c.in-Ok.ensures.grows _ _ _ c.requires.contents.knows)) ∙ c.if-not-is_new_name.false in
-    let made = definition_step (name_at t1.names c.in-Ok.number) (term_at t1.terms c.in-Some.body) in
+    let new = sym (c.is_new_name.ensures _ (knows-grown t0 t1 c.in_ok-number.ensures.grows _ _ _ c.requires.contents.knows)) ∙ c.if-not-is_new_name.false in
+    let made = definition_step (name_at t1.names c.in_ok-number.number) (term_at t1.terms c.in-Some.body) in
     let body = term_at t1.terms c.in-Some.body in
-    let defined = subst (IsDefined made body c.define.new.terms) c.in-Ok-Ok.field-0-is c.in-Ok-Ok.ensures.defined in
-    new-definition t0 t1 c.args.contents.now c.requires.contents c.args.name.now c.in-Ok.number c.args.body c.in-Some.body c.in-Ok.ensures.grows c.in-Ok.ensures.number named legal
-    c.define.new.terms c.define.ensures.grows new c.in-Ok-Ok.given.ty c.in-Ok-Ok.given.conclusion defined (sym c.is_full.ensures ∙ c.if-is_full.false)
+    let defined = subst (IsDefined made body c.define.new.terms) c.in-Ok.is c.in_ok-given.ensures.defined in
+    new-definition t0 t1 c.args.contents.now c.requires.contents c.args.name.now c.in_ok-number.number c.args.body c.in-Some.body c.in_ok-number.ensures.grows c.in_ok-number.ensures.number named legal
+    c.define.new.terms c.define.ensures.grows new c.in-Ok.given.ty c.in-Ok.given.conclusion defined (sym c.is_full.ensures ∙ c.if-is_full.false)
 
 pub is_new_name-requires : goal.is_new_name-requires
-is_new_name-requires c = is_within c.name.new.self.names c.in-Ok.number _ c.in-Ok.ensures.number
+is_new_name-requires c = is_within c.name.new.self.names c.in_ok-number.number _ c.in_ok-number.ensures.number

@@ -102,52 +102,55 @@ run_link-returns-else-len-goals-clause-outcome g t c =
     let here = rw c.deref.ensures.value at c.run_on_each.ensures.outcome in
     rw (c.in-Thenl.is, thenl_means) (each-assigned (tactics_of c.in-Thenl.tacs.items) c.args.goals.now some here)
 
-pub run_links-returns-in-Err-clause-outcome : goal.run_links-returns-in-Err-clause-outcome
-run_links-returns-in-Err-clause-outcome g t c =
+pub run_links-returns-in_err-steps-clause-outcome : goal.run_links-returns-in_err-steps-clause-outcome
+run_links-returns-in_err-steps-clause-outcome g t c =
     let so_far = rw (links-drop c.args.links.now c.loop-link.link-index c.link-item.result (omega arith) c.link-item.is) at c.loop-link.invariant.0 in
-    on-stop _ _ so_far (rw (c.deref.ensures.value, c.loop-link.invariant.1) at c.in-Err.ensures.outcome)
+    let p = err_from_is_err_and c.from_residual.result c.from_residual.ensures.1 in
+    rw (p.1, p.2) (on-stop _ _ so_far (rw (c.deref.ensures.value, c.loop-link.invariant.1) at c.in_err-steps.ensures.outcome))
 
-pub run_links-returns-in-Err-spliced-clause-outcome : goal.run_links-returns-in-Err-spliced-clause-outcome
-run_links-returns-in-Err-spliced-clause-outcome g t c =
+pub run_links-returns-in_err-step-clause-outcome : goal.run_links-returns-in_err-step-clause-outcome
+run_links-returns-in_err-step-clause-outcome g t c =
     let so_far = rw (links-drop c.args.links.now c.loop-link.link-index c.link-item.result (omega arith) c.link-item.is) at c.loop-link.invariant.0 in
-    on-unspliced _ _ so_far (rw (c.deref.ensures.value, c.loop-link.invariant.1) at c.in-Ok.ensures.outcome) c.in-Err-spliced.ensures
+    let p = err_from_is_err_and c.from_residual-in_err-step.result c.from_residual-in_err-step.ensures.1 in
+    rw (p.1, p.2) (on-unspliced _ _ so_far (rw (c.deref.ensures.value, c.loop-link.invariant.1) at c.in_ok-steps.ensures.outcome) c.in_err-step.ensures)
 
 pub run_links-loop-link-preserved : goal.run_links-loop-link-preserved
 run_links-loop-link-preserved g t c =
     let so_far = rw (links-drop c.args.links.now c.loop-link.link-index c.link-item.result (omega arith) c.link-item.is) at c.loop-link.invariant.0 in
     let posed = rw (links-drop c.args.links.now c.loop-link.link-index c.link-item.result (omega arith) c.link-item.is) at c.loop-link.invariant.4 in
-    let here = rw (c.deref.ensures.value, c.loop-link.invariant.1) at c.in-Ok.ensures.outcome in (
-      on-next _ _ so_far here c.in-Ok-spliced.ensures,
-      c.in-Ok.ensures.theory ∙ c.loop-link.invariant.1,
-      c.in-Ok.ensures.ready,
-      g.met.L.Leaves.extends_twice _ _ _ c.loop-link.invariant.3 c.in-Ok.ensures.extends,
-      made-posed _ _ (links_of (drop (c.loop-link.link-index + 1) c.args.links.now)) (step_of c.loop-link.step) here posed c.in-Ok-spliced.ensures,
+    let here = rw (c.deref.ensures.value, c.loop-link.invariant.1) at c.in_ok-steps.ensures.outcome in (
+      on-next _ _ so_far here c.in_ok-step.ensures,
+      c.in_ok-steps.ensures.theory ∙ c.loop-link.invariant.1,
+      c.in_ok-steps.ensures.ready,
+      g.met.L.Leaves.extends_twice _ _ _ c.loop-link.invariant.3 c.in_ok-steps.ensures.extends,
+      made-posed _ _ (links_of (drop (c.loop-link.link-index + 1) c.args.links.now)) (step_of c.loop-link.step) here posed c.in_ok-step.ensures,
     )
 
 pub run_links-returns-clause-outcome : goal.run_links-returns-clause-outcome
 run_links-returns-clause-outcome g t c =
     let so_far = rw (drop_all c.loop-link.link-index c.args.links.now (omega arith)) at c.loop-link.invariant.0 in on-end _ _ so_far
 
-pub run_on_all-returns-in-Err-clause-outcome : goal.run_on_all-returns-in-Err-clause-outcome
-run_on_all-returns-in-Err-clause-outcome g t c =
+pub run_on_all-returns-in_err-step-clause-outcome : goal.run_on_all-returns-in_err-step-clause-outcome
+run_on_all-returns-in_err-step-clause-outcome g t c =
     let so_far = rw (goals-drop c.args.goals.now c.loop-goal.goal-index c.goal-item.result (omega arith) c.goal-item.is) at c.loop-goal.invariant.0 in
-    each-stop _ _ so_far (rw c.loop-goal.invariant.1 at c.in-Err.ensures.outcome)
+    let p = err_from_is_err_and c.from_residual.result c.from_residual.ensures.1 in
+    rw (p.1, p.2) (each-stop _ _ so_far (rw c.loop-goal.invariant.1 at c.in_err-step.ensures.outcome))
 
 pub run_on_all-returns-in_err-keep-clause-outcome : goal.run_on_all-returns-in_err-keep-clause-outcome
 run_on_all-returns-in_err-keep-clause-outcome g t c =
-    let p = err_from_is_err_and c.from_residual.result c.from_residual.ensures.1 in
+    let p = err_from_is_err_and c.from_residual-in_err-keep.result c.from_residual-in_err-keep.ensures.1 in
     let so_far = rw (goals-drop c.args.goals.now c.loop-goal.goal-index c.goal-item.result (omega arith) c.goal-item.is) at c.loop-goal.invariant.0 in
-    rw (p.1, p.2, c.in_err-keep.ensures.err) (each-starved _ _ so_far (rw c.loop-goal.invariant.1 at c.in-Ok.ensures.outcome))
+    rw (p.1, p.2, c.in_err-keep.ensures.err) (each-starved _ _ so_far (rw c.loop-goal.invariant.1 at c.in_ok-step.ensures.outcome))
 
 pub run_on_all-loop-goal-preserved : goal.run_on_all-loop-goal-preserved
 run_on_all-loop-goal-preserved g t c =
     let so_far = rw (goals-drop c.args.goals.now c.loop-goal.goal-index c.goal-item.result (omega arith) c.goal-item.is) at c.loop-goal.invariant.0 in
     let posed = rw (goals-drop c.args.goals.now c.loop-goal.goal-index c.goal-item.result (omega arith) c.goal-item.is) at c.loop-goal.invariant.4 in
-    let here = rw c.loop-goal.invariant.1 at c.in-Ok.ensures.outcome in (
+    let here = rw c.loop-goal.invariant.1 at c.in_ok-step.ensures.outcome in (
       rw (c.in_ok-keep.ensures.ok, map-append) (each-next _ _ so_far here),
-      c.in-Ok.ensures.theory ∙ c.loop-goal.invariant.1,
-      c.in-Ok.ensures.ready,
-      g.met.L.Leaves.extends_twice _ _ _ c.loop-goal.invariant.3 c.in-Ok.ensures.extends,
+      c.in_ok-step.ensures.theory ∙ c.loop-goal.invariant.1,
+      c.in_ok-step.ensures.ready,
+      g.met.L.Leaves.extends_twice _ _ _ c.loop-goal.invariant.3 c.in_ok-step.ensures.extends,
       goals-posed _ _ here posed,
     )
 
@@ -155,24 +158,25 @@ pub run_on_all-returns-clause-outcome : goal.run_on_all-returns-clause-outcome
 run_on_all-returns-clause-outcome g t c =
     let so_far = rw (drop_all c.loop-goal.goal-index c.args.goals.now (omega arith)) at c.loop-goal.invariant.0 in each-end _ _ so_far
 
-pub run_on_each-returns-in-Err-clause-outcome : goal.run_on_each-returns-in-Err-clause-outcome
-run_on_each-returns-in-Err-clause-outcome g t c =
+pub run_on_each-returns-in_err-step-clause-outcome : goal.run_on_each-returns-in_err-step-clause-outcome
+run_on_each-returns-in_err-step-clause-outcome g t c =
     let same = c.requires.lengths in
     let next_tac = tactics-drop c.args.tacs.now c.loop-i.i c.index-tacs-i.result (omega arith) c.index-tacs-i.is in
     let next_goal = goals-drop c.args.goals.now c.loop-i.i c.index-goals-i.result (omega (arith, same)) c.index-goals-i.is in
     let so_far = rw (next_tac, next_goal) at c.loop-i.invariant.0 in
     let rest = pairs-left c.args.tacs.now c.args.goals.now (c.loop-i.i + 1) same in
-    paired-stop _ _ so_far rest.1 (rw c.loop-i.invariant.1 at c.in-Err.ensures.outcome)
+    let p = err_from_is_err_and c.from_residual.result c.from_residual.ensures.1 in
+    rw (p.1, p.2) (paired-stop _ _ so_far rest.1 (rw c.loop-i.invariant.1 at c.in_err-step.ensures.outcome))
 
 pub run_on_each-returns-in_err-keep-clause-outcome : goal.run_on_each-returns-in_err-keep-clause-outcome
 run_on_each-returns-in_err-keep-clause-outcome g t c =
-    let p = err_from_is_err_and c.from_residual.result c.from_residual.ensures.1 in
+    let p = err_from_is_err_and c.from_residual-in_err-keep.result c.from_residual-in_err-keep.ensures.1 in
     let same = c.requires.lengths in
     let next_tac = tactics-drop c.args.tacs.now c.loop-i.i c.index-tacs-i.result (omega arith) c.index-tacs-i.is in
     let next_goal = goals-drop c.args.goals.now c.loop-i.i c.index-goals-i.result (omega (arith, same)) c.index-goals-i.is in
     let so_far = rw (next_tac, next_goal) at c.loop-i.invariant.0 in
     let rest = pairs-left c.args.tacs.now c.args.goals.now (c.loop-i.i + 1) same in
-    rw (p.1, p.2, c.in_err-keep.ensures.err) (paired-starved _ _ so_far rest.1 (rw c.loop-i.invariant.1 at c.in-Ok.ensures.outcome))
+    rw (p.1, p.2, c.in_err-keep.ensures.err) (paired-starved _ _ so_far rest.1 (rw c.loop-i.invariant.1 at c.in_ok-step.ensures.outcome))
 
 pub run_on_each-loop-i-preserved : goal.run_on_each-loop-i-preserved
 run_on_each-loop-i-preserved g t c =
@@ -181,11 +185,11 @@ run_on_each-loop-i-preserved g t c =
     let next_goal = goals-drop c.args.goals.now c.loop-i.i c.index-goals-i.result (omega (arith, same)) c.index-goals-i.is in
     let so_far = rw (next_tac, next_goal) at c.loop-i.invariant.0 in
     let posed = rw (next_tac, next_goal) at c.loop-i.invariant.4 in
-    let here = rw c.loop-i.invariant.1 at c.in-Ok.ensures.outcome in (
+    let here = rw c.loop-i.invariant.1 at c.in_ok-step.ensures.outcome in (
       rw (c.in_ok-keep.ensures.ok, map-append) (paired-next _ _ so_far here),
-      c.in-Ok.ensures.theory ∙ c.loop-i.invariant.1,
-      c.in-Ok.ensures.ready,
-      g.met.L.Leaves.extends_twice _ _ _ c.loop-i.invariant.3 c.in-Ok.ensures.extends,
+      c.in_ok-step.ensures.theory ∙ c.loop-i.invariant.1,
+      c.in_ok-step.ensures.ready,
+      g.met.L.Leaves.extends_twice _ _ _ c.loop-i.invariant.3 c.in_ok-step.ensures.extends,
       pairs-posed _ _ (tactics_of (drop (c.loop-i.i + 1) c.args.tacs.now)) here posed,
     )
 
@@ -299,19 +303,20 @@ run_repeat-returns-in-Refused-once-clause-outcome g t c =
     let here = rw c.loop-frame.invariant.1 at c.in-Refused-once.ensures.outcome in
     refuses _ _ _ _ _ waits here.0 here.1
 
-pub run_repeat-returns-in-Err-clause-outcome : goal.run_repeat-returns-in-Err-clause-outcome
-run_repeat-returns-in-Err-clause-outcome g t c =
+pub run_repeat-returns-in_err-made-clause-outcome : goal.run_repeat-returns-in_err-made-clause-outcome
+run_repeat-returns-in_err-made-clause-outcome g t c =
     let same : frame_of c.take_goal.new.frame ≡ frame_of c.in-Some.frame = search rules in
     let none : (frame_of c.in-Some.frame).left ≡ [] = search rules in
     let open_now = rw (c.in-Some.ensures, ← same) at c.loop-frame.invariant.0 in
-    unspliced _ _ _ _ _ open_now (none-left same none) c.in-Err.ensures
+    let p = err_from_is_err_and c.from_residual-in_err-made.result c.from_residual-in_err-made.ensures.1 in
+    rw (p.1, p.2) (unspliced _ _ _ _ _ open_now (none-left same none) c.in_err-made.ensures)
 
 pub run_repeat-returns-in_default-pop-clause-outcome : goal.run_repeat-returns-in_default-pop-clause-outcome
 run_repeat-returns-in_default-pop-clause-outcome g t c =
     let same : frame_of c.take_goal.new.frame ≡ frame_of c.in-Some.frame = search rules in
     let none : (frame_of c.in-Some.frame).left ≡ [] = search rules in
     let open_now = rw (c.in-Some.ensures, c.in_default-pop.ensures, ← same) at c.loop-frame.invariant.0 in
-    closes _ _ _ _ _ open_now (none-left same none) c.in-Ok.ensures
+    closes _ _ _ _ _ open_now (none-left same none) c.in_ok-made.ensures
 
 pub run_repeat-returns-in_err-resume-clause-outcome : goal.run_repeat-returns-in_err-resume-clause-outcome
 run_repeat-returns-in_err-resume-clause-outcome g t c =
@@ -319,7 +324,7 @@ run_repeat-returns-in_err-resume-clause-outcome g t c =
     let none : (frame_of c.in-Some.frame).left ≡ [] = search rules in
     let open_now = rw (c.in-Some.ensures, c.in-Some-pop.ensures, ← same) at c.loop-frame.invariant.0 in
     let p = err_from_is_err_and c.from_residual-in_err-resume.result c.from_residual-in_err-resume.ensures.1 in
-    rw (p.1, p.2, c.in_err-resume.ensures.err) (starved _ _ _ _ _ (closes _ _ _ _ _ open_now (none-left same none) c.in-Ok.ensures))
+    rw (p.1, p.2, c.in_err-resume.ensures.err) (starved _ _ _ _ _ (closes _ _ _ _ _ open_now (none-left same none) c.in_ok-made.ensures))
 
 pub run_repeat-loop-frame-preserved : goal.run_repeat-loop-frame-preserved
 run_repeat-loop-frame-preserved g t c =
@@ -327,9 +332,9 @@ run_repeat-loop-frame-preserved g t c =
     let none : (frame_of c.in-Some.frame).left ≡ [] = search rules in
     let open_now = rw (c.in-Some.ensures, c.in-Some-pop.ensures, ← same) at c.loop-frame.invariant.0 in
     let frames = rw (c.in-Some.ensures, c.in-Some-pop.ensures) at c.loop-frame.invariant.4 in (
-      rw c.in_ok-resume.ensures.ok (closes _ _ _ _ _ open_now (none-left same none) c.in-Ok.ensures),
+      rw c.in_ok-resume.ensures.ok (closes _ _ _ _ _ open_now (none-left same none) c.in_ok-made.ensures),
       c.loop-frame.invariant.1,
       c.loop-frame.invariant.2,
       c.loop-frame.invariant.3,
-      rw c.in_ok-resume.ensures.ok (closes-posed _ _ (step_of c.in-Ok.made) frames),
+      rw c.in_ok-resume.ensures.ok (closes-posed _ _ (step_of c.in_ok-made.made) frames),
     )

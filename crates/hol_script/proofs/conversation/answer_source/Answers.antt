@@ -1,4 +1,5 @@
 use Rattle.std.proofs.Common.{rules, ◌≡◌, ◌∙◌, ◌≤◌, ◌<◌, ◌+◌, ℕ, List, ◌++◌, length, take, drop, false, refl, sym, ap, subst, inl, inr, arith}
+use Rattle.std.proofs.lemmas.Result.{err_from_is_err_and}
 use Rattle.std.specs.Io.KnownBytes.{Consumes}
 use Rattle.std.proofs.KnownBytes.{Consumes-nil, Consumes-trans, Consumes-kept}
 use Rattle.hol_model.specs.declared.fault.Fault.TheVariants.{Memory, ReadFault, TooLong}
@@ -62,24 +63,28 @@ returns-then-count-known-clause-front g c =
     front-told (session_tools (g.H.Refiners.refiners c.args.host.now) (g.H.Converters.conversions c.args.host.now)) (g.R.Source.remaining c.args.reader.now) (g.R.Source.remaining c.pulls.reader)
     c.pulls.read.items c.pulls.invariant.consumed (front-here (session_tools (g.H.Refiners.refiners c.args.host.now) (g.H.Converters.conversions c.args.host.now)) c.pulls.invariant.underway)
 
-pub returns-in-Err-clause-err : goal.returns-in-Err-clause-err
-returns-in-Err-clause-err g c =
-    stopped (session_tools (g.H.Refiners.refiners c.args.host.now) (g.H.Converters.conversions c.args.host.now)) (g.R.Source.remaining c.args.reader.now) (g.R.Source.remaining c.pulls.reader)
+pub returns-in_err-extend_from_slice-clause-err : goal.returns-in_err-extend_from_slice-clause-err
+returns-in_err-extend_from_slice-clause-err g c =
+    let p = err_from_is_err_and c.from_residual.result c.from_residual.ensures.1 in
+    rw (p.1, p.2)
+    (stopped (session_tools (g.H.Refiners.refiners c.args.host.now) (g.H.Converters.conversions c.args.host.now)) (g.R.Source.remaining c.args.reader.now) (g.R.Source.remaining c.pulls.reader)
     (g.R.Source.has_failed c.pull.new.self)
     c.pulls.invariant.consumed c.pulls.invariant.within_limit
-    Memory c.pulls.invariant.underway c.pulls.invariant.waits (inr (inr refl))
+    Memory c.pulls.invariant.underway c.pulls.invariant.waits (inr (inr refl)))
 
-pub returns-in-Err-clause-front : goal.returns-in-Err-clause-front
-returns-in-Err-clause-front g c =
-    front-told (session_tools (g.H.Refiners.refiners c.args.host.now) (g.H.Converters.conversions c.args.host.now)) (g.R.Source.remaining c.args.reader.now) (g.R.Source.remaining c.pulls.reader)
-    c.pulls.read.items c.pulls.invariant.consumed (front-here (session_tools (g.H.Refiners.refiners c.args.host.now) (g.H.Converters.conversions c.args.host.now)) c.pulls.invariant.underway)
+pub returns-in_err-extend_from_slice-clause-front : goal.returns-in_err-extend_from_slice-clause-front
+returns-in_err-extend_from_slice-clause-front g c =
+    let p = err_from_is_err_and c.from_residual.result c.from_residual.ensures.1 in
+    rw p.1
+    (front-told (session_tools (g.H.Refiners.refiners c.args.host.now) (g.H.Converters.conversions c.args.host.now)) (g.R.Source.remaining c.args.reader.now) (g.R.Source.remaining c.pulls.reader)
+    c.pulls.read.items c.pulls.invariant.consumed (front-here (session_tools (g.H.Refiners.refiners c.args.host.now) (g.H.Converters.conversions c.args.host.now)) c.pulls.invariant.underway))
 
 pub pulls-preserved : goal.pulls-preserved
 pulls-preserved g c =
     let tools = (session_tools (g.H.Refiners.refiners c.args.host.now) (g.H.Converters.conversions c.args.host.now)) in
     let read = c.pulls.read.items in
     let chunk = take c.in-Ok.count c.pull.new.buf in
-    let items : c.extend_from_slice.new.self.items ≡ read ++ chunk = c.in-Ok-extend_from_slice.ensures.items in
+    let items : c.extend_from_slice.new.self.items ≡ read ++ chunk = c.in_ok-extend_from_slice.ensures.items in
     let whole : c.deref.result.now ≡ read ++ chunk = c.deref.ensures.value ∙ items in
     let more : IsUnderway tools c.deref.result.now (g.W.Sink.contents c.args.writer.now) (g.W.Sink.contents c.pulls.writer) c.pulls.course =
     subst (λ (l : List ℕ). IsUnderway tools l (g.W.Sink.contents c.args.writer.now) (g.W.Sink.contents c.pulls.writer) c.pulls.course) (sym whole)
@@ -90,21 +95,21 @@ pulls-preserved g c =
     let same = c.deref.ensures.value in
     record {
       underway = subst (λ (l : List ℕ). IsUnderway tools l (g.W.Sink.contents c.args.writer.now) (g.W.Sink.contents c.answer_new.new.writer) c.answer_new.new.self) same
-          (c.in-Ok-answer_new.ensures.goes_on (g.W.Sink.contents c.args.writer.now) more);
-      within = subst (λ (l : List ℕ). IsWithin l c.answer_new.new.self) same c.in-Ok-answer_new.ensures.within;
-      waits = subst (λ (l : List ℕ). has_mark (drop c.answer_new.new.self.at l) ≡ false) same c.in-Ok-answer_new.ensures.waits;
+          (c.in_ok-answer_new.ensures.goes_on (g.W.Sink.contents c.args.writer.now) more);
+      within = subst (λ (l : List ℕ). IsWithin l c.answer_new.new.self) same c.in_ok-answer_new.ensures.within;
+      waits = subst (λ (l : List ℕ). has_mark (drop c.answer_new.new.self.at l) ≡ false) same c.in_ok-answer_new.ensures.waits;
       consumed = subst (λ (l : List ℕ). Consumes (g.R.Source.remaining c.args.reader.now) (g.R.Source.remaining c.pull.new.self) l) (sym items) consumed;
       reader_unfailed = search rules;
-      writer_unfailed = c.in-Ok-answer_new.ensures.unfailed;
+      writer_unfailed = c.in_ok-answer_new.ensures.unfailed;
       within_limit = search rules;
     }
 
-pub returns-in-Err-answer_new-clause-err : goal.returns-in-Err-answer_new-clause-err
-returns-in-Err-answer_new-clause-err g c =
+pub returns-in_err-answer_new-clause-err : goal.returns-in_err-answer_new-clause-err
+returns-in_err-answer_new-clause-err g c =
     let tools = (session_tools (g.H.Refiners.refiners c.args.host.now) (g.H.Converters.conversions c.args.host.now)) in
     let read = c.pulls.read.items in
     let chunk = take c.in-Ok.count c.pull.new.buf in
-    let items : c.extend_from_slice.new.self.items ≡ read ++ chunk = c.in-Ok-extend_from_slice.ensures.items in
+    let items : c.extend_from_slice.new.self.items ≡ read ++ chunk = c.in_ok-extend_from_slice.ensures.items in
     let whole : c.deref.result.now ≡ read ++ chunk = c.deref.ensures.value ∙ items in
     let more : IsUnderway tools c.deref.result.now (g.W.Sink.contents c.args.writer.now) (g.W.Sink.contents c.pulls.writer) c.pulls.course =
     subst (λ (l : List ℕ). IsUnderway tools l (g.W.Sink.contents c.args.writer.now) (g.W.Sink.contents c.pulls.writer) c.pulls.course) (sym whole)
@@ -113,16 +118,18 @@ returns-in-Err-answer_new-clause-err g c =
     Consumes-trans (g.R.Source.remaining c.args.reader.now) (g.R.Source.remaining c.pulls.reader) (g.R.Source.remaining c.pull.new.self) read chunk c.pulls.invariant.consumed
     c.in-Ok.ensures.bytes.0 in
     let within : length c.deref.result.now ≤ 16777216 = search rules in
-    answer-stopped tools (g.R.Source.remaining c.args.reader.now) (g.R.Source.remaining c.pull.new.self) (g.R.Source.has_failed c.pull.new.self)
+    let p = err_from_is_err_and c.from_residual-in_err-answer_new.result c.from_residual-in_err-answer_new.ensures.1 in
+    rw (p.1, p.2)
+    (answer-stopped tools (g.R.Source.remaining c.args.reader.now) (g.R.Source.remaining c.pull.new.self) (g.R.Source.has_failed c.pull.new.self)
     (subst (λ (l : List ℕ). Consumes (g.R.Source.remaining c.args.reader.now) (g.R.Source.remaining c.pull.new.self) l) (sym whole) consumed) within
-    c.in-Err-answer_new.ensures.kinds c.in-Err-answer_new.ensures.failed (c.in-Err-answer_new.ensures.breaks (g.W.Sink.contents c.args.writer.now) more)
+    c.in_err-answer_new.ensures.kinds c.in_err-answer_new.ensures.failed (c.in_err-answer_new.ensures.breaks (g.W.Sink.contents c.args.writer.now) more))
 
-pub returns-in-Err-answer_new-clause-front : goal.returns-in-Err-answer_new-clause-front
-returns-in-Err-answer_new-clause-front g c =
+pub returns-in_err-answer_new-clause-front : goal.returns-in_err-answer_new-clause-front
+returns-in_err-answer_new-clause-front g c =
     let tools = (session_tools (g.H.Refiners.refiners c.args.host.now) (g.H.Converters.conversions c.args.host.now)) in
     let read = c.pulls.read.items in
     let chunk = take c.in-Ok.count c.pull.new.buf in
-    let items : c.extend_from_slice.new.self.items ≡ read ++ chunk = c.in-Ok-extend_from_slice.ensures.items in
+    let items : c.extend_from_slice.new.self.items ≡ read ++ chunk = c.in_ok-extend_from_slice.ensures.items in
     let whole : c.deref.result.now ≡ read ++ chunk = c.deref.ensures.value ∙ items in
     let more : IsUnderway tools c.deref.result.now (g.W.Sink.contents c.args.writer.now) (g.W.Sink.contents c.pulls.writer) c.pulls.course =
     subst (λ (l : List ℕ). IsUnderway tools l (g.W.Sink.contents c.args.writer.now) (g.W.Sink.contents c.pulls.writer) c.pulls.course) (sym whole)
@@ -130,6 +137,8 @@ returns-in-Err-answer_new-clause-front g c =
     let consumed : Consumes (g.R.Source.remaining c.args.reader.now) (g.R.Source.remaining c.pull.new.self) (read ++ chunk) =
     Consumes-trans (g.R.Source.remaining c.args.reader.now) (g.R.Source.remaining c.pulls.reader) (g.R.Source.remaining c.pull.new.self) read chunk c.pulls.invariant.consumed
     c.in-Ok.ensures.bytes.0 in
-    front-told tools (g.R.Source.remaining c.args.reader.now) (g.R.Source.remaining c.pull.new.self) c.deref.result.now
+    let p = err_from_is_err_and c.from_residual-in_err-answer_new.result c.from_residual-in_err-answer_new.ensures.1 in
+    rw p.1
+    (front-told tools (g.R.Source.remaining c.args.reader.now) (g.R.Source.remaining c.pull.new.self) c.deref.result.now
     (subst (λ (l : List ℕ). Consumes (g.R.Source.remaining c.args.reader.now) (g.R.Source.remaining c.pull.new.self) l) (sym whole) consumed)
-    (λ further. c.in-Err-answer_new.ensures.front (g.W.Sink.contents c.args.writer.now) further more)
+    (λ further. c.in_err-answer_new.ensures.front (g.W.Sink.contents c.args.writer.now) further more))

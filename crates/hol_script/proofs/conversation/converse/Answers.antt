@@ -1,4 +1,5 @@
 use Rattle.std.proofs.Common.{◌≡◌, refl}
+use Rattle.std.proofs.lemmas.Result.{err_from_is_err_and}
 use Rattle.hol_script_manager.specs.Session.{session_tools}
 use Rattle.hol_script.specs.Runs.{source_use, sink_use, counts_of}
 use Rattle.hol_script.specs.Conversations.{at_end}
@@ -8,20 +9,25 @@ use Rattle.hol_script.proofs.EndLemmas.{whole-unlogged, whole-in_log, logs-told,
 use Rattle.hol_script.proofs.ConversationLemmas.{closes-early, front-walked}
 use Rattle.hol_script.proofs.conversation.converse.Goals as goal
 
-pub returns-in-Err-clause-closes : goal.returns-in-Err-clause-closes
-returns-in-Err-clause-closes g c =
-    closes-early (session_tools (g.H.Refiners.refiners c.args.host.now) (g.H.Converters.conversions c.args.host.now))
+pub returns-in_err-progress-clause-closes : goal.returns-in_err-progress-clause-closes
+returns-in_err-progress-clause-closes g c =
+    let p = err_from_is_err_and c.from_residual.result c.from_residual.ensures.1 in
+    rw (p.1, p.2)
+    (closes-early (session_tools (g.H.Refiners.refiners c.args.host.now) (g.H.Converters.conversions c.args.host.now))
     (source_use (g.R.Source.remaining c.args.reader.now) (g.R.Source.has_failed c.answer_input.new.reader))
     (g.R.Source.remaining c.answer_input.new.reader)
     (sink_use (g.W.Sink.contents c.args.writer.now) (g.W.Sink.contents c.answer_input.new.writer) (g.W.Sink.has_failed c.answer_input.new.writer) (c.answer_input.new.writer ≡ c.args.writer.now))
     (sink_use (g.L.Sink.contents c.args.log.now) (g.L.Sink.contents c.args.log.now) (g.L.Sink.has_failed c.args.log.now) (c.args.log.now ≡ c.args.log.now))
-    c.in-Err.fault c.in-Err.ensures.err refl
+    c.in_err-progress.field-0.0 c.in_err-progress.ensures.err refl)
 
-pub returns-in-Err-clause-told_front : goal.returns-in-Err-clause-told_front
-returns-in-Err-clause-told_front g c = front-walked (session_tools (g.H.Refiners.refiners c.args.host.now) (g.H.Converters.conversions c.args.host.now)) c.in-Err.ensures.front
+pub returns-in_err-progress-clause-told_front : goal.returns-in_err-progress-clause-told_front
+returns-in_err-progress-clause-told_front g c =
+    let p = err_from_is_err_and c.from_residual.result c.from_residual.ensures.1 in
+    rw p.1
+    (front-walked (session_tools (g.H.Refiners.refiners c.args.host.now) (g.H.Converters.conversions c.args.host.now)) c.in_err-progress.ensures.front)
 
 pub write_log-logged-requires-clause-named : goal.write_log-logged-requires-clause-named
-write_log-logged-requires-clause-named g c = run-named c.in-Ok.progress c.in-Ok.ensures.ok.finishes
+write_log-logged-requires-clause-named g c = run-named c.in_ok-progress.progress c.in_ok-progress.ensures.ok.finishes
 
 pub returns-then-not-wants_log-clause-closes : goal.returns-then-not-wants_log-clause-closes
 returns-then-not-wants_log-clause-closes g c =
@@ -29,7 +35,7 @@ returns-then-not-wants_log-clause-closes g c =
     (source_use (g.R.Source.remaining c.args.reader.now) (g.R.Source.has_failed c.answer_input.new.reader))
     (sink_use (g.W.Sink.contents c.args.writer.now) (g.W.Sink.contents c.answer_input.new.writer) (g.W.Sink.has_failed c.answer_input.new.writer) (c.answer_input.new.writer ≡ c.args.writer.now))
     (sink_use (g.L.Sink.contents c.args.log.now) (g.L.Sink.contents c.args.log.now) (g.L.Sink.has_failed c.args.log.now) (c.args.log.now ≡ c.args.log.now))
-    c.in-Ok.ensures.ok.script c.in-Ok.ensures.ok.read c.in-Ok.ensures.ok.within_limit c.in-Ok.progress c.in-Ok.ensures.ok.finishes c.if-not-wants_log.true refl)
+    c.in_ok-progress.ensures.ok.script c.in_ok-progress.ensures.ok.read c.in_ok-progress.ensures.ok.within_limit c.in_ok-progress.progress c.in_ok-progress.ensures.ok.finishes c.if-not-wants_log.true refl)
 
 pub returns-clause-closes : goal.returns-clause-closes
 returns-clause-closes g c =
@@ -37,26 +43,26 @@ returns-clause-closes g c =
     (source_use (g.R.Source.remaining c.args.reader.now) (g.R.Source.has_failed c.answer_input.new.reader))
     (sink_use (g.W.Sink.contents c.args.writer.now) (g.W.Sink.contents c.answer_input.new.writer) (g.W.Sink.has_failed c.answer_input.new.writer) (c.answer_input.new.writer ≡ c.args.writer.now))
     (sink_use (g.L.Sink.contents c.args.log.now) (g.L.Sink.contents c.write_log-logged.new.log) (g.L.Sink.has_failed c.write_log-logged.new.log) (c.write_log-logged.new.log ≡ c.args.log.now))
-    c.in-Ok.ensures.ok.script c.in-Ok.ensures.ok.read c.in-Ok.ensures.ok.within_limit c.in-Ok.progress c.in-Ok.ensures.ok.finishes c.write_log-logged.result c.if-not-wants_log.false
+    c.in_ok-progress.ensures.ok.script c.in_ok-progress.ensures.ok.read c.in_ok-progress.ensures.ok.within_limit c.in_ok-progress.progress c.in_ok-progress.ensures.ok.finishes c.write_log-logged.result c.if-not-wants_log.false
     c.write_log-logged.ensures.ok c.write_log-logged.ensures.refusals
     c.write_log-logged.ensures.write_fault c.write_log-logged.ensures.too_long c.write_log-logged.ensures.unwritten)
 
 pub returns-clause-own_log : goal.returns-clause-own_log
-returns-clause-own_log g c wanted = logs-told c.in-Ok.progress c.write_log-logged.result c.write_log-logged.ensures.ok c.write_log-logged.ensures.write_fault c.write_log-logged.ensures.too_long
+returns-clause-own_log g c wanted = logs-told c.in_ok-progress.progress c.write_log-logged.result c.write_log-logged.ensures.ok c.write_log-logged.ensures.write_fault c.write_log-logged.ensures.too_long
 
 pub returns-clause-log_told : goal.returns-clause-log_told
-returns-clause-log_told g c = told-so (counts_of c.in-Ok.progress.summary) c.write_log-logged.result c.write_log-logged.ensures.told
+returns-clause-log_told g c = told-so (counts_of c.in_ok-progress.progress.summary) c.write_log-logged.result c.write_log-logged.ensures.told
 
 pub returns-then-not-wants_log-clause-told : goal.returns-then-not-wants_log-clause-told
 returns-then-not-wants_log-clause-told g c =
-    finishes_told (session_tools (g.H.Refiners.refiners c.args.host.now) (g.H.Converters.conversions c.args.host.now)) c.in-Ok.ensures.ok.script c.in-Ok.ensures.ok.read c.in-Ok.ensures.ok.finishes
+    finishes_told (session_tools (g.H.Refiners.refiners c.args.host.now) (g.H.Converters.conversions c.args.host.now)) c.in_ok-progress.ensures.ok.script c.in_ok-progress.ensures.ok.read c.in_ok-progress.ensures.ok.finishes
 
 pub returns-clause-told : goal.returns-clause-told
 returns-clause-told g c =
-    finishes_told (session_tools (g.H.Refiners.refiners c.args.host.now) (g.H.Converters.conversions c.args.host.now)) c.in-Ok.ensures.ok.script c.in-Ok.ensures.ok.read c.in-Ok.ensures.ok.finishes
+    finishes_told (session_tools (g.H.Refiners.refiners c.args.host.now) (g.H.Converters.conversions c.args.host.now)) c.in_ok-progress.ensures.ok.script c.in_ok-progress.ensures.ok.read c.in_ok-progress.ensures.ok.finishes
 
 pub returns-then-not-wants_log-clause-leaves : goal.returns-then-not-wants_log-clause-leaves
-returns-then-not-wants_log-clause-leaves g c = record { script = c.in-Ok.ensures.ok.script; read = c.in-Ok.ensures.ok.read; finishes = c.in-Ok.ensures.ok.finishes }
+returns-then-not-wants_log-clause-leaves g c = record { script = c.in_ok-progress.ensures.ok.script; read = c.in_ok-progress.ensures.ok.read; finishes = c.in_ok-progress.ensures.ok.finishes }
 
 pub returns-clause-leaves : goal.returns-clause-leaves
-returns-clause-leaves g c = record { script = c.in-Ok.ensures.ok.script; read = c.in-Ok.ensures.ok.read; finishes = c.in-Ok.ensures.ok.finishes }
+returns-clause-leaves g c = record { script = c.in_ok-progress.ensures.ok.script; read = c.in_ok-progress.ensures.ok.read; finishes = c.in_ok-progress.ensures.ok.finishes }

@@ -3,8 +3,8 @@ use Rattle.hol_script_manager.specs.Session.{session_tools}
 use Rattle.hol_script.specs.Courses.{IsWithin, IsUnderway}
 use Rattle.hol_script.proofs.course.Course.answer_read.Given as goal
 
-abbrev pub invariant-loop-fault : goal.invariant-loop-fault
-invariant-loop-fault g l = record {
+abbrev pub invariant-loop : goal.invariant-loop
+invariant-loop g l = record {
   within : IsWithin l.fn.read l.self;
   unfailed : g.W.Sink.has_failed l.writer ≡ false;
   goes_on : (written : Option (List ℕ)) → IsUnderway (session_tools (g.H.Refiners.refiners l.fn.host) (g.H.Converters.conversions l.fn.host)) l.fn.read written
@@ -12,5 +12,5 @@ invariant-loop-fault g l = record {
       → IsUnderway (session_tools (g.H.Refiners.refiners l.fn.host) (g.H.Converters.conversions l.fn.host)) l.fn.read written (g.W.Sink.contents l.writer) l.self;
 }
 
-abbrev pub decreases-loop-fault : goal.decreases-loop-fault
-decreases-loop-fault g l = length l.fn.read - l.self.at
+abbrev pub decreases-loop : goal.decreases-loop
+decreases-loop g l = length l.fn.read - l.self.at
