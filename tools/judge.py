@@ -1,17 +1,65 @@
 #!/usr/bin/env python3
-"""judge.py ROOT CRATE [NAME..]: judges the crate's wrong bodies, those that the gate tries (.edit) and the others (.md) alike, over the work
-that its checks kept. Status 1: one was not refused."""
+"""judge.py ROOT CRATE [NAME..]: judges the crate's wrong bodies, those that the gate tries (.edit) and the others (.md) alike, over the libraries
+that stand in ROOT. One that changes a function is judged by a check of that function alone, any other over the work that a check of the crate
+kept. Status 1: one was not refused, or could not be judged."""
 import glob
 import os
+import re
 import sys
 
 from rtkit import crates, rt
+
+FUNCTION = re.compile(r"\s*(?:pub(?:\(crate\))? )?fn (\w+)")
+IMPL = re.compile(r"impl(?:<[^>]*>)? (?:(\w+(?:<\w+>)?)(?:<.*?>)? for )?(\w+)")
+TOLD = re.compile(r"(note: )?\S+:\d+:\d+:")
+NAMES = re.compile(r"(note: )?(\./)?proofs/.*(has no field|is not in scope|has no `|was not admitted)")
+
+
+def function_at(crate, file, line):
+    """Returns the path of the function in which the line stands, or its end."""
+    module = file.removeprefix("src/").removesuffix(".rt").removesuffix("/mod").split("/")
+    owner = function = None
+    with open(f"{crate.folder}/{file}", encoding="utf-8") as text:
+        for it in text.read().split("\n")[: line + 1]:
+            if it.startswith("}"):
+                owner = function = None
+            elif found := IMPL.match(it):
+                owner, function = found.group(2) + re.sub(r"\W", "", found.group(1) or ""), None
+            elif found := FUNCTION.match(it):
+                function = found.group(1)
+    if owner:
+        return f"{owner}::{function}"
+    return "::".join([crate.name, *(module if module != ["lib"] else []), *filter(None, (function,))])
+
+
+def judge(crate, edit):
+    """Returns whether the wrong body was refused, and what to say."""
+    label = f"must-fail {crate.name}/{os.path.basename(edit)}"
+    texts, why = rt.read_edit(edit, crate.folder)
+    if why:
+        return False, f"{label}: BAD EDIT: {why}"
+    if len(texts) != 1 or not list(texts)[0].startswith("src/"):
+        came_to, said = rt.must_fail(crate, edit, ["--jobs", "1"], f"{crate.folder}/out/incremental")
+        return came_to in (rt.REFUSED, rt.AT_LIMIT), said
+    ((file, text),) = texts.items()
+    with open(f"{crate.folder}/{file}", encoding="utf-8") as old:
+        lines = zip(old.read().split("\n"), text.split("\n"))
+    path = function_at(crate, file, next(at for at, (one, other) in enumerate(lines) if one != other))
+    ran = rt.checked(crate, texts, ["--jobs", "1", "--only", path], None)
+    told = [it for it in ran.stdout.split("\n") if TOLD.match(it) and (": error" in it or it.startswith("note: "))]
+    first = next((it for it in told if not NAMES.match(it)), "")
+    if told and not first:
+        return False, f"{label}: refused, as it must be (only because a proof file names what the edit took away): {told[0][:160]}"
+    if first:
+        return True, f"{label}: refused, as it must be: {first[:300]}"
+    return False, f"{label}: NOT REFUSED at {path}: {ran.stdout.strip()[-200:]}"
+
 
 crate = next(it for it in crates(os.path.realpath(sys.argv[1])) if it.name == sys.argv[2])
 missed = False
 for edit in sorted(glob.glob(f"{crate.folder}/must-fail/*")):
     if not sys.argv[3:] or os.path.splitext(os.path.basename(edit))[0] in sys.argv[3:]:
-        came_to, said = rt.must_fail(crate, edit, ["--jobs", "1"], f"{crate.folder}/out/incremental")
-        missed = missed or came_to not in (rt.REFUSED, rt.AT_LIMIT)
+        is_refused, said = judge(crate, edit)
+        missed = missed or not is_refused
         print(said, flush=True)
 sys.exit(missed)
