@@ -18,7 +18,7 @@ ghost use Rattle.hol_refine_table.specs.Answers.{step_in, AnswersStep, AnswersRo
 ghost use Rattle.hol_refine_table.specs.Rows as stated;
 
 use crate::assumed::{are_assumed, is_assumed};
-use crate::making::{by_first, by_second, by_two, to_one, to_target, to_targets, with_theorem};
+use crate::making::{by_mp, by_subgoal, by_two, to_one, to_target, to_targets};
 use crate::parts::equation_sides;
 use hol_alpha::aconv;
 use hol_just::{Goal, Just, Rule, Step};
@@ -53,7 +53,7 @@ fn implied(alloc: Global, name: &str, conclusion: &Term, goal: &Goal) -> Result<
     ensures { type_of conclusion.now ≡ Some bool_type → type_of goal.now.concl ≡ Some bool_type → AnswersStep (stated.implied (goal_of goal.now) name.now conclusion.now) (step_in result) }
 {
     let implication = implies(alloc, conclusion, &goal.concl)?;
-    let just = with_theorem(alloc, Rule::Mp, name)?;
+    let just = by_mp(alloc, name)?;
     to_target(alloc, goal, &implication, just)
 }
 
@@ -97,7 +97,7 @@ fn undischarged(alloc: Global, p: &Term, goal: &Goal) -> Result<Step, Fault>
     ensures { type_of p.now ≡ Some bool_type → type_of goal.now.concl ≡ Some bool_type → AnswersStep (stated.undischarged (goal_of goal.now) p.now) (step_in result) }
 {
     let implication = implies(alloc, p, &goal.concl)?;
-    let just = by_first(alloc, Rule::Undisch)?;
+    let just = by_subgoal(alloc, Rule::Undisch, 0)?;
     let asms = without(alloc, p, &goal.asms)?;
     let subgoal = Goal {
         asms,
@@ -122,8 +122,8 @@ pub(crate) fn undisch_tac(alloc: Global, p: &Term, goal: &Goal) -> Result<Step, 
 pub(crate) fn by_both_ways(alloc: Global) -> Result<Just, Fault>
     ensures { Makes result stated.by_both_ways }
 {
-    let second = by_second(alloc, Rule::Undisch)?;
-    let first = by_first(alloc, Rule::Undisch)?;
+    let second = by_subgoal(alloc, Rule::Undisch, 1)?;
+    let first = by_subgoal(alloc, Rule::Undisch, 0)?;
     by_two(alloc, Rule::DeductAntisym, second, first)
 }
 

@@ -4,6 +4,7 @@ ghost use Rattle.hol_model.specs.declared.fault.Fault.TheVariants.{Memory};
 ghost use Rattle.hol_model.specs.Derived.DerivedRules.{Conclusion, named, IsConclusion};
 ghost use Rattle.hol_model.specs.Goals.Justifications.{Justification, by_rule, no_parts};
 ghost use Rattle.hol_model.specs.Goals.Justifications as trees;
+ghost use Rattle.hol_model.specs.Derived.InferenceRules.{rule_conj, rule_mp, rule_disj_cases};
 ghost use Rattle.hol_model.specs.Refining.Refiners as refiners;
 ghost use Rattle.hol_model.specs.Refining.Refiners.{StatedGoal, from_assumptions, one_part, two_parts, three_parts, leaves, from_first, from_second};
 ghost use Rattle.hol_just.specs.Rules.{rule_of};
@@ -127,57 +128,67 @@ pub(crate) fn to_two(alloc: Global, first: Goal, second: Goal, just: Just) -> Re
     Ok(Step { goals, just })
 }
 
-/// What a rule draws from the first subgoal.
-pub(crate) fn by_first(alloc: Global, rule: Rule) -> Result<Just, Fault>
-    ensures { Makes result (by_rule (rule_of rule) (one_part from_first)) }
+/// What a rule draws from the subgoal of this number.
+pub(crate) fn by_subgoal(alloc: Global, rule: Rule, number: usize) -> Result<Just, Fault>
+    ensures { Makes result (by_rule (rule_of rule) (one_part (trees.sub number))) }
 {
-    let first = sub(alloc, 0)?;
-    by_one(alloc, rule, first)
+    match sub(alloc, number) {
+        Ok(subgoal) => by_one(alloc, rule, subgoal),
+        Err(fault) => {
+            drop(rule);
+            Err(fault)
+        }
+    }
 }
 
-/// What a rule draws from the second subgoal.
-pub(crate) fn by_second(alloc: Global, rule: Rule) -> Result<Just, Fault>
-    ensures { Makes result (by_rule (rule_of rule) (one_part from_second)) }
-{
-    let second = sub(alloc, 1)?;
-    by_one(alloc, rule, second)
-}
-
-/// What a rule draws from both subgoals.
-pub(crate) fn by_both(alloc: Global, rule: Rule) -> Result<Just, Fault>
-    ensures { Makes result (by_rule (rule_of rule) (two_parts from_first from_second)) }
+/// What CONJ draws from both subgoals.
+pub(crate) fn by_conj(alloc: Global) -> Result<Just, Fault>
+    ensures { Makes result (by_rule rule_conj (two_parts from_first from_second)) }
 {
     let first = sub(alloc, 0)?;
     let second = sub(alloc, 1)?;
-    by_two(alloc, rule, first, second)
+    by_two(alloc, Rule::Conj, first, second)
+}
+
+// A stored theorem and the first subgoal.
+fn theorem_and_first(alloc: Global, name: &str) -> Result<(Just, Just), Fault>
+    ensures theorem { IfOk result (λ parts. tree_of parts.0 ≡ trees.named name.now) }
+    ensures first { IfOk result (λ parts. tree_of parts.1 ≡ from_first) }
+    ensures err { IfErr result (λ fault. fault ≡ Memory) }
+{
+    let theorem = named(alloc, name)?;
+    let first = sub(alloc, 0)?;
+    Ok((theorem, first))
 }
 
 /// What a rule draws from a stored theorem and the first subgoal.
 pub(crate) fn by_theorem(alloc: Global, rule: Rule, name: &str) -> Result<Just, Fault>
     ensures { Makes result (by_rule (rule_of rule) (two_parts (trees.named name.now) from_first)) }
 {
-    let theorem = named(alloc, name)?;
-    let first = sub(alloc, 0)?;
-    by_two(alloc, rule, theorem, first)
+    match theorem_and_first(alloc, name) {
+        Ok((theorem, first)) => by_two(alloc, rule, theorem, first),
+        Err(fault) => {
+            drop(rule);
+            Err(fault)
+        }
+    }
 }
 
-/// What a rule draws from the first subgoal and a stored theorem.
-pub(crate) fn with_theorem(alloc: Global, rule: Rule, name: &str) -> Result<Just, Fault>
-    ensures { Makes result (by_rule (rule_of rule) (two_parts from_first (trees.named name.now))) }
+/// What MP draws from the first subgoal and a stored theorem.
+pub(crate) fn by_mp(alloc: Global, name: &str) -> Result<Just, Fault>
+    ensures { Makes result (by_rule rule_mp (two_parts from_first (trees.named name.now))) }
 {
-    let first = sub(alloc, 0)?;
-    let theorem = named(alloc, name)?;
-    by_two(alloc, rule, first, theorem)
+    let (theorem, first) = theorem_and_first(alloc, name)?;
+    by_two(alloc, Rule::Mp, first, theorem)
 }
 
-/// What a rule draws from a stored theorem and both subgoals.
-pub(crate) fn by_cases(alloc: Global, rule: Rule, name: &str) -> Result<Just, Fault>
-    ensures { Makes result (by_rule (rule_of rule) (three_parts (trees.named name.now) from_first from_second)) }
+/// What DISJ_CASES draws from a stored theorem and both subgoals.
+pub(crate) fn by_disj_cases(alloc: Global, name: &str) -> Result<Just, Fault>
+    ensures { Makes result (by_rule rule_disj_cases (three_parts (trees.named name.now) from_first from_second)) }
 {
-    let theorem = named(alloc, name)?;
-    let first = sub(alloc, 0)?;
     let second = sub(alloc, 1)?;
-    by_three(alloc, rule, theorem, first, second)
+    let (theorem, first) = theorem_and_first(alloc, name)?;
+    by_three(alloc, Rule::DisjCases, theorem, first, second)
 }
 
 /// A step by a rule without premises.

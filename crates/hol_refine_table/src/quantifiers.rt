@@ -15,7 +15,7 @@ ghost use Rattle.hol_refine_table.specs.Answers.{step_in, AnswersLeaf, AnswersNa
 ghost use Rattle.hol_refine_table.specs.Rows as stated;
 
 use crate::assumed::are_assumed;
-use crate::making::{by_first, by_theorem, to_assuming_stated, to_stated};
+use crate::making::{by_subgoal, by_theorem, to_assuming_stated, to_stated};
 use crate::names::{fresh_name, fresh_name_beside};
 use crate::quantified::{Quantified, instance, quantified_parts, renamed, variable_of};
 use hol_just::{Goal, Just, Rule, Step};
@@ -31,7 +31,7 @@ fn by_exists(alloc: Global, formula: &Term, witness: &Term) -> Result<Just, Faul
 {
     let formula = formula.copy(alloc)?;
     let witness = witness.copy(alloc)?;
-    by_first(alloc, Rule::Exists(formula, witness))
+    by_subgoal(alloc, Rule::Exists(formula, witness), 0)
 }
 
 // The body with the witness for the variable.
@@ -82,7 +82,7 @@ fn by_gen(alloc: Global, name: &str, ty: &Ty) -> Result<Just, Fault>
     ensures { Makes result (by_rule (rule_gen (variable name.now ty.now)) (one_part from_first)) }
 {
     let variable = variable_of(alloc, name, ty)?;
-    by_first(alloc, Rule::Gen(variable))
+    by_subgoal(alloc, Rule::Gen(variable), 0)
 }
 
 // The body with a new variable.

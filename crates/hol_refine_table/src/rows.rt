@@ -13,7 +13,7 @@ ghost use Rattle.hol_refine_table.specs.Answers.{step_in, AnswersStep, AnswersRo
 ghost use Rattle.hol_refine_table.specs.Rows as stated;
 
 use crate::assumed::is_assumed;
-use crate::making::{by_both, by_first, by_itself, by_one, to_assuming, to_target, to_targets};
+use crate::making::{by_conj, by_itself, by_one, by_subgoal, to_assuming, to_target, to_targets};
 use crate::parts::{connected_sides, equation_sides, negated_part};
 use hol_alpha::aconv;
 use hol_just::{Goal, Just, Rule, Step, sub};
@@ -82,7 +82,7 @@ pub(crate) fn refl_tac(alloc: Global, goal: &Goal) -> Result<Step, Fault>
 fn both(alloc: Global, goal: &Goal, left: &Term, right: &Term) -> Result<Step, Fault>
     ensures { AnswersStep (stated.both (goal_of goal.now) left.now right.now) (step_in result) }
 {
-    let just = by_both(alloc, Rule::Conj)?;
+    let just = by_conj(alloc)?;
     to_targets(alloc, goal, left, right, just)
 }
 
@@ -101,7 +101,7 @@ fn left_alone(alloc: Global, goal: &Goal, left: &Term, right: &Term) -> Result<S
     ensures { AnswersStep (leaves (refiners.toward (goal_of goal.now) (named left.now) ∷ []) (by_rule (rule_disj1 right.now) (one_part from_first))) (step_in result) }
 {
     let right = right.copy(alloc)?;
-    let just = by_first(alloc, Rule::Disj1(right))?;
+    let just = by_subgoal(alloc, Rule::Disj1(right), 0)?;
     to_target(alloc, goal, left, just)
 }
 
@@ -120,7 +120,7 @@ fn right_alone(alloc: Global, goal: &Goal, left: &Term, right: &Term) -> Result<
     ensures { AnswersStep (leaves (refiners.toward (goal_of goal.now) (named right.now) ∷ []) (by_rule (rule_disj2 left.now) (one_part from_first))) (step_in result) }
 {
     let left = left.copy(alloc)?;
-    let just = by_first(alloc, Rule::Disj2(left))?;
+    let just = by_subgoal(alloc, Rule::Disj2(left), 0)?;
     to_target(alloc, goal, right, just)
 }
 
@@ -139,7 +139,7 @@ fn by_disch(alloc: Global, p: &Term) -> Result<Just, Fault>
     ensures { Makes result (by_rule (rule_disch p.now) (one_part from_first)) }
 {
     let p = p.copy(alloc)?;
-    by_first(alloc, Rule::Disch(p))
+    by_subgoal(alloc, Rule::Disch(p), 0)
 }
 
 // `q`, with `p` assumed.

@@ -12,7 +12,7 @@ ghost use Rattle.hol_refine_table.specs.Answers.{step_in, AnswersStep, AnswersNa
 ghost use Rattle.hol_refine_table.specs.Rows as stated;
 
 use crate::assumed::are_assumed;
-use crate::making::{by_cases, by_theorem, closed, to_assuming, to_cases};
+use crate::making::{by_disj_cases, by_theorem, closed, to_assuming, to_cases};
 use crate::parts::connected_sides;
 use hol_alpha::aconv;
 use hol_just::{Goal, Rule, Step, named};
@@ -84,7 +84,7 @@ pub(crate) fn assume_tac(
 fn split(alloc: Global, name: &str, left: &Term, right: &Term, goal: &Goal) -> Result<Step, Fault>
     ensures { AnswersStep (stated.split (goal_of goal.now) name.now left.now right.now) (step_in result) }
 {
-    let just = by_cases(alloc, Rule::DisjCases, name)?;
+    let just = by_disj_cases(alloc, name)?;
     to_cases(alloc, goal, left, right, just)
 }
 
