@@ -4,11 +4,11 @@ ghost use Rattle.hol_journal.specs.Journal.{IsMade};
 ghost use Rattle.hol_equal.specs.Sequents.{Continues, IsHeld};
 ghost use Rattle.hol_taut_chains.specs.Negations.{HasNegationLaws};
 
-use crate::chain_steps::reflexive;
+use crate::chain_steps::{followed, reflexive};
 use crate::chains::sides_of;
 use crate::parts::{beneath, joined};
 use crate::pulled::law_at;
-use hol_equal::{conclusion_of, trans};
+use hol_equal::conclusion_of;
 use hol_journal::{Rec, Recorder};
 use hol_model::Fault;
 use hol_taut_formulas::{Form, form_of};
@@ -54,51 +54,32 @@ pub fn has_negated_part(term: &Term) -> bool {
     }
 }
 
-// Of `p <=> q`, where `p` is negated, what is negated and `q`.
-fn sides_under_left(chain: &Term) -> Option<(&Term, &Term)> {
-    match sides_of(chain) {
-        Some((left, right)) => match negated(left) {
-            Some(core) => Some((core, right)),
-            None => None,
-        },
-        None => None,
-    }
-}
-
-// Of `p <=> q`, where `q` is negated, `p` and what is negated.
+// Of `p <=> ~q`, `p` and `q`.
 fn sides_under_right(chain: &Term) -> Option<(&Term, &Term)> {
-    match sides_of(chain) {
-        Some((left, right)) => match negated(right) {
-            Some(core) => Some((left, core)),
-            None => None,
-        },
-        None => None,
-    }
+    let (left, right) = sides_of(chain)?;
+    Some((left, negated(right)?))
 }
 
 // The right side of an equation of formulas.
 fn right_of(equation: &Term) -> Option<&Term> {
-    match sides_of(equation) {
-        Some((_, right)) => Some(right),
-        None => None,
-    }
+    let (_, right) = sides_of(equation)?;
+    Some(right)
 }
 
-// From `p <=> q` and `q <=> r`, `p <=> r`.
-fn followed(
-    recorder: &mut Recorder,
-    alloc: Global,
-    equation: &Rec,
-    next: Result<Rec, Fault>,
-) -> Result<Rec, Fault>
-    requires equation { IsMade recorder.old equation.now }
-    requires next { IfOk next (IsHeld recorder.old) }
-    ensures continues { Continues recorder.old recorder.new result }
-{
-    match next {
-        Ok(next) => trans(recorder, alloc, equation, &next),
-        Err(fault) => Err(fault),
-    }
+// Of `p <=> ~~q`, `q`.
+fn under_two(equation: &Term) -> Option<&Term> {
+    negated(negated(right_of(equation)?)?)
+}
+
+// Of `chain <=> (~p <=> q)`, `p` and `q`.
+fn under_left(equation: &Term) -> Option<(&Term, &Term)> {
+    let (left, right) = sides_of(right_of(equation)?)?;
+    Some((negated(left)?, right))
+}
+
+// Of `chain <=> (p <=> ~q)`, `p` and `q`.
+fn under_right(equation: &Term) -> Option<(&Term, &Term)> {
+    sides_under_right(right_of(equation)?)
 }
 
 // From `p <=> ~~q`, `p <=> q`; any other stays.
@@ -113,17 +94,11 @@ fn without_two(
     requires equation { IsHeld recorder.old equation }
     ensures continues { Continues recorder.old recorder.new result }
 {
-    let Some(right) = right_of(conclusion_of(recorder, &equation)) else {
-        return Err(Fault::BadShape);
-    };
-    let Some(once) = negated(right) else {
-        return Ok(equation);
-    };
-    let Some(core) = negated(once) else {
+    let Some(core) = under_two(conclusion_of(recorder, &equation)) else {
         return Ok(equation);
     };
     let next = law_at(recorder, alloc, &laws.twice, core, core, core);
-    followed(recorder, alloc, &equation, next)
+    followed(recorder, alloc, equation, next)
 }
 
 // From `chain <=> (~p <=> q)`, `chain <=> ~(p <=> q)`; any other stays.
@@ -138,14 +113,11 @@ fn pulled_left(
     requires equation { IsHeld recorder.old equation }
     ensures continues { Continues recorder.old recorder.new result }
 {
-    let Some(chain) = right_of(conclusion_of(recorder, &equation)) else {
-        return Err(Fault::BadShape);
-    };
-    let Some((p, q)) = sides_under_left(chain) else {
+    let Some((p, q)) = under_left(conclusion_of(recorder, &equation)) else {
         return Ok(equation);
     };
     let next = law_at(recorder, alloc, &laws.left, p, q, q);
-    followed(recorder, alloc, &equation, next)
+    followed(recorder, alloc, equation, next)
 }
 
 // From `chain <=> (p <=> ~q)`, `chain <=> ~(p <=> q)`; any other stays.
@@ -160,14 +132,18 @@ fn pulled_right(
     requires equation { IsHeld recorder.old equation }
     ensures continues { Continues recorder.old recorder.new result }
 {
-    let Some(chain) = right_of(conclusion_of(recorder, &equation)) else {
-        return Err(Fault::BadShape);
-    };
-    let Some((p, q)) = sides_under_right(chain) else {
+    let Some((p, q)) = under_right(conclusion_of(recorder, &equation)) else {
         return Ok(equation);
     };
     let next = law_at(recorder, alloc, &laws.right, p, q, q);
-    followed(recorder, alloc, &equation, next)
+    followed(recorder, alloc, equation, next)
+}
+
+// Of `chain <=> ~(p <=> ~q)`, its right side, `p` and `q`.
+fn under_both(equation: &Term) -> Option<(&Term, &Term, &Term)> {
+    let right = right_of(equation)?;
+    let (p, q) = sides_under_right(negated(right)?)?;
+    Some((right, p, q))
 }
 
 // From `chain <=> ~(p <=> ~q)`, `chain <=> ~~(p <=> q)`; any other stays.
@@ -182,18 +158,12 @@ fn pulled_beneath(
     requires equation { IsHeld recorder.old equation }
     ensures continues { Continues recorder.old recorder.new result }
 {
-    let Some(right) = right_of(conclusion_of(recorder, &equation)) else {
-        return Err(Fault::BadShape);
-    };
-    let Some(chain) = negated(right) else {
-        return Ok(equation);
-    };
-    let Some((p, q)) = sides_under_right(chain) else {
+    let Some((right, p, q)) = under_both(conclusion_of(recorder, &equation)) else {
         return Ok(equation);
     };
     let law = law_at(recorder, alloc, &laws.right, p, q, q);
     let next = beneath(recorder, alloc, right, law);
-    followed(recorder, alloc, &equation, next)
+    followed(recorder, alloc, equation, next)
 }
 
 // The same, and a double negation goes.

@@ -3,9 +3,8 @@ ghost use Rattle.hol_journal.specs.Journal.{IsMade};
 ghost use Rattle.hol_equal.specs.Sequents.{Continues};
 ghost use Rattle.hol_taut_chains.specs.Chains.{HasChainLaws};
 
-use crate::chain_steps::under;
+use crate::chain_steps::{beside, followed};
 use crate::chains::{sides_of, twofold};
-use crate::formula_terms::equal_to;
 use crate::pulled::{ChainLaws, front_and_rest, law_at, pulled};
 use hol_alpha::aconv;
 use hol_equal::{conclusion_of, trans};
@@ -61,10 +60,9 @@ fn paired(
     requires second { IsMade recorder.old second.now }
     ensures continues { Continues recorder.old recorder.new result }
 {
-    let function = equal_to(alloc, part)?;
-    let beside = under(recorder, alloc, &function, second)?;
-    let without = without_both(recorder, alloc, laws, second)?;
-    trans(recorder, alloc, &beside, &without)
+    let beside = beside(recorder, alloc, part, second)?;
+    let without = without_both(recorder, alloc, laws, second);
+    followed(recorder, alloc, beside, without)
 }
 
 // `chain <=> shorter`, where the part stands at two places of the chain.
@@ -129,6 +127,6 @@ pub(crate) fn without_pairs(
     let Some((next, rest)) = next_pair(recorder, &shorter) else {
         return Ok(shorter);
     };
-    let shortest = without_pairs(recorder, alloc, laws, next, rest, more - 1)?;
-    trans(recorder, alloc, &shorter, &shortest)
+    let shortest = without_pairs(recorder, alloc, laws, next, rest, more - 1);
+    followed(recorder, alloc, shorter, shortest)
 }

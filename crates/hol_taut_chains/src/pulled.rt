@@ -3,11 +3,11 @@ ghost use Rattle.hol_journal.specs.Journal.{IsMade};
 ghost use Rattle.hol_equal.specs.Sequents.{Continues};
 ghost use Rattle.hol_taut_chains.specs.Chains.{HasChainLaws};
 
-use crate::chain_steps::{instance, reflexive, under};
+use crate::chain_steps::{beside, followed, instance, reflexive};
 use crate::chains::{is_part, sides_of};
-use crate::formula_terms::{equal_to, for_p_q_r};
+use crate::formula_terms::for_p_q_r;
 use hol_alpha::aconv;
-use hol_equal::{conclusion_of, trans};
+use hol_equal::conclusion_of;
 use hol_journal::{Rec, Recorder};
 use hol_model::Fault;
 use hol_terms::Term;
@@ -81,10 +81,9 @@ fn carried(
     requires inner { IsMade recorder.old inner.now }
     ensures continues { Continues recorder.old recorder.new result }
 {
-    let function = equal_to(alloc, left)?;
-    let beside = under(recorder, alloc, &function, inner)?;
-    let exchanged = exchanged(recorder, alloc, laws, left, inner)?;
-    trans(recorder, alloc, &beside, &exchanged)
+    let beside = beside(recorder, alloc, left, inner)?;
+    let exchanged = exchanged(recorder, alloc, laws, left, inner);
+    followed(recorder, alloc, beside, exchanged)
 }
 
 // From `left <=> part <=> rest`, `(left <=> right) <=> (part <=> right <=> rest)`.
@@ -102,8 +101,8 @@ fn turned(
     ensures continues { Continues recorder.old recorder.new result }
 {
     let turned = law_at(recorder, alloc, &laws.commuted, left, right, right)?;
-    let carried = carried(recorder, alloc, laws, right, inner)?;
-    trans(recorder, alloc, &turned, &carried)
+    let carried = carried(recorder, alloc, laws, right, inner);
+    followed(recorder, alloc, turned, carried)
 }
 
 /// `chain <=> part <=> rest`, for a part of the chain.
