@@ -35,9 +35,7 @@ impl Follower {
         let Ok(known) = Known::new(alloc) else {
             return Err(Fault::Memory);
         };
-        let Ok(manager) = Manager::new(alloc) else {
-            return Err(Fault::Memory);
-        };
+        let manager = Manager::new(alloc)?;
         Ok(Follower {
             known,
             manager,
@@ -65,10 +63,7 @@ impl Follower {
         } = self;
         let walk = Walk::new(alloc, script, host);
         if !is_blank_text(script.text) {
-            match explain_piece(&walk, writer, &mut known, &mut manager, script.text, &place) {
-                Ok(_is_refused) => {}
-                Err(fault) => return Err(fault),
-            }
+            explain_piece(&walk, writer, &mut known, &mut manager, script.text, &place)?;
         }
         let place = place.behind(script.text).behind(b";;");
         Ok(Follower {
@@ -91,9 +86,7 @@ impl Follower {
         ensures { IfErr result (Contains (WriteFault ∷ Memory ∷ [])) }
     {
         let walk = Walk::new(alloc, script, host);
-        match explain_rest(&walk, writer, script.text, &self.place) {
-            Ok(_is_refused) => Ok(()),
-            Err(fault) => Err(fault),
-        }
+        explain_rest(&walk, writer, script.text, &self.place)?;
+        Ok(())
     }
 }

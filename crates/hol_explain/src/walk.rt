@@ -231,10 +231,8 @@ pub(crate) fn explain_piece<W: Sink, H: Refiners>(
     };
     let mut lines = Message::new(walk.alloc);
     let is_refused = answer(walk, known, manager, &piece, place, &mut lines);
-    match write_lines(writer, &lines) {
-        Ok(()) => Ok(is_refused),
-        Err(fault) => Err(fault),
-    }
+    write_lines(writer, &lines)?;
+    Ok(is_refused)
 }
 
 // Tells a rest without a mark behind it, which begins at a place.
@@ -262,10 +260,8 @@ pub(crate) fn explain_rest<W: Sink, H: Refiners>(
     };
     let mut lines = Message::new(walk.alloc);
     tell_unended(walk, &rest, place, &mut lines);
-    match write_lines(writer, &lines) {
-        Ok(()) => Ok(true),
-        Err(fault) => Err(fault),
-    }
+    write_lines(writer, &lines)?;
+    Ok(true)
 }
 
 // Runs the commands of a script, and writes what is told of each. Answers how many were refused.
@@ -287,18 +283,14 @@ fn explain_pieces<W: Sink, H: Refiners>(
             break;
         };
         if !is_blank_text(piece) {
-            match explain_piece(walk, writer, known, manager, piece, &place) {
-                Ok(is_refused) => refused = refused.saturating_add(is_refused as u64),
-                Err(fault) => return Err(fault),
-            }
+            let is_refused = explain_piece(walk, writer, known, manager, piece, &place)?;
+            refused = refused.saturating_add(is_refused as u64);
         }
         place = place.behind(piece).behind(b";;");
         rest = behind;
     }
-    match explain_rest(walk, writer, rest, &place) {
-        Ok(is_refused) => Ok(refused.saturating_add(is_refused as u64)),
-        Err(fault) => Err(fault),
-    }
+    let is_refused = explain_rest(walk, writer, rest, &place)?;
+    Ok(refused.saturating_add(is_refused as u64))
 }
 
 // Walks over a script, over a proof manager of its own.
@@ -309,9 +301,7 @@ fn walk_over<W: Sink, H: Refiners>(walk: &Walk<'_, H>, writer: &mut W) -> Result
     let Ok(mut known) = Known::new(walk.alloc) else {
         return Err(Fault::Memory);
     };
-    let Ok(mut manager) = Manager::new(walk.alloc) else {
-        return Err(Fault::Memory);
-    };
+    let mut manager = Manager::new(walk.alloc)?;
     explain_pieces(walk, writer, &mut known, &mut manager)
 }
 
