@@ -91,11 +91,11 @@ impl<'a> Told<'a> {
     pub fn line(&self, alloc: Global) -> Result<String, NoMemory> {
         let (file, here) = self.located(self.piece.start(0));
         let line = here.line;
-        let (lead, file, end) = if self.origins.len() > 1 {
-            (" of `", file, "`")
+        let text = if self.origins.len() > 1 {
+            format!(in alloc; "line {line} of `{file}`")
         } else {
-            ("", "", "")
+            format!(in alloc; "line {line}")
         };
-        Ok(format!(in alloc; "line {line}{lead}{file}{end}")?)
+        Ok(text?)
     }
 }
