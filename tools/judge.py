@@ -10,7 +10,7 @@ import sys
 from rtkit import crates, rt
 
 FUNCTION = re.compile(r"\s*(?:pub(?:\(crate\))? )?fn (\w+)")
-IMPL = re.compile(r"impl(?:<[^>]*>)? (?:(\w+(?:<\w+>)?)(?:<.*?>)? for )?(\w+)")
+IMPL = re.compile(r"impl(<[^>]*>)? (?:(\w+(?:<\w+>)?)(?:<.*?>)? for )?(\w+)(?:<(\w+)>)?")
 TOLD = re.compile(r"(note: )?\S+:\d+:\d+:")
 NAMES = re.compile(r"(note: )?(\./)?proofs/.*(has no field|is not in scope|has no `|was not admitted)")
 
@@ -24,7 +24,8 @@ def function_at(crate, file, line):
             if it.startswith("}"):
                 owner = function = None
             elif found := IMPL.match(it):
-                owner, function = found.group(2) + re.sub(r"\W", "", found.group(1) or ""), None
+                generics, trait, owner, given = found.groups()
+                owner, function = owner + (f"+{given}" if given and not generics else "") + re.sub(r"\W", "", trait or ""), None
             elif found := FUNCTION.match(it):
                 function = found.group(1)
     if owner:
