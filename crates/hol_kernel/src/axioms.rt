@@ -1,11 +1,12 @@
 // The two axioms (HOL Light's ETA_AX and SELECT_AX without their quantifiers).
-ghost use Rattle.std.specs.Prelude.{◌≡◌, [], ◌∷◌, IfOk, IfErr};
-ghost use Rattle.hol_model.specs.Terms.HolType.{function_type, bool_type};
-ghost use Rattle.hol_model.specs.Logic.Theory.{type_a, type_b};
+ghost use Rattle.std.specs.Prelude.{◌≡◌, [], ◌∷◌, IfOk, IfErr, codes};
+ghost use Rattle.hol_model.specs.Terms.NamedTerm.{variable, combination, abstraction};
+ghost use Rattle.hol_model.specs.Logic.Theory.{type_a};
 ghost use Rattle.hol_model.specs.Kernel.NamedAxioms as axioms;
 ghost use Rattle.hol_model.specs.declared.fault.Fault.TheVariants.{Memory};
 
-use crate::generic::choice;
+use crate::generic::{choice, predicate_type, type_a};
+use crate::hypotheses::one_hypothesis;
 use crate::theory::Theory;
 use crate::thm::Thm;
 use hol_model::Fault;
@@ -23,7 +24,7 @@ impl Theory {
         ensures err { IfErr result (λ fault. fault ≡ Memory) }
     {
         let conclusion = eta_conclusion(alloc)?;
-        Thm::new(alloc, self.entries()?, Vec::new(alloc), conclusion)
+        Thm::new(alloc, self.entries(), Vec::new(alloc), conclusion)
     }
 
     /// SELECT: `P x |- P (@ P)`, for variables `P` of type `A->bool` and `x` of type `A`: choice takes a value that has the
@@ -33,10 +34,9 @@ impl Theory {
         ensures err { IfErr result (λ fault. fault ≡ Memory) }
     {
         let predicate = select_predicate(alloc)?;
-        let mut hypotheses = Vec::new(alloc);
-        hypotheses.push(select_hypothesis(alloc, &predicate)?)?;
         let conclusion = select_conclusion(alloc, &predicate)?;
-        Thm::new(alloc, self.entries()?, hypotheses, conclusion)
+        let hypotheses = one_hypothesis(alloc, select_hypothesis(alloc, &predicate)?)?;
+        Thm::new(alloc, self.entries(), hypotheses, conclusion)
     }
 }
 
@@ -44,22 +44,44 @@ fn eta_conclusion(alloc: Global) -> Result<Term, Fault>
     ensures ok { IfOk result (λ term. term ≡ axioms.eta_conclusion) }
     ensures err { IfErr result (λ fault. fault ≡ Memory) }
 {
-    let a = Ty::tyvar(alloc, "A")?;
-    let b = Ty::tyvar(alloc, "B")?;
-    let function = Term::mk_var(alloc, "t", &Ty::fun(alloc, &a, &b)?)?;
-    let argument = Term::mk_var(alloc, "x", &a)?;
-    let applied = Term::mk_comb(alloc, &function, &argument)?;
-    let expanded = Term::mk_abs(alloc, &argument, &applied)?;
+    let function = eta_function(alloc)?;
+    let expanded = expanded(alloc, &function)?;
     mk_eq(alloc, &expanded, &function)
+}
+
+fn eta_function(alloc: Global) -> Result<Term, Fault>
+    ensures ok { IfOk result (λ term. term ≡ axioms.eta_function) }
+    ensures err { IfErr result (λ fault. fault ≡ Memory) }
+{
+    let domain = type_a(alloc)?;
+    let ty = Ty::fun(alloc, &domain, &Ty::tyvar(alloc, "B")?)?;
+    Term::mk_var(alloc, "t", &ty)
+}
+
+// The abstraction of the function's values.
+fn expanded(alloc: Global, function: &Term) -> Result<Term, Fault>
+    requires { function.now ≡ axioms.eta_function }
+    ensures ok { IfOk result (λ term. term ≡ abstraction (codes "x") type_a (combination axioms.eta_function (variable (codes "x") type_a))) }
+    ensures err { IfErr result (λ fault. fault ≡ Memory) }
+{
+    let argument = argument(alloc)?;
+    let applied = Term::mk_comb(alloc, function, &argument)?;
+    Term::mk_abs(alloc, &argument, &applied)
+}
+
+// The variable `x` of type `A`.
+fn argument(alloc: Global) -> Result<Term, Fault>
+    ensures ok { IfOk result (λ term. term ≡ variable (codes "x") type_a) }
+    ensures err { IfErr result (λ fault. fault ≡ Memory) }
+{
+    Term::mk_var(alloc, "x", &type_a(alloc)?)
 }
 
 fn select_predicate(alloc: Global) -> Result<Term, Fault>
     ensures ok { IfOk result (λ term. term ≡ axioms.select_predicate) }
     ensures err { IfErr result (λ fault. fault ≡ Memory) }
 {
-    let a = Ty::tyvar(alloc, "A")?;
-    let ty = Ty::fun(alloc, &a, &Ty::boolean(alloc)?)?;
-    Term::mk_var(alloc, "P", &ty)
+    Term::mk_var(alloc, "P", &predicate_type(alloc)?)
 }
 
 fn select_hypothesis(alloc: Global, predicate: &Term) -> Result<Term, Fault>
@@ -67,8 +89,7 @@ fn select_hypothesis(alloc: Global, predicate: &Term) -> Result<Term, Fault>
     ensures ok { IfOk result (λ term. term ≡ axioms.select_hypothesis) }
     ensures err { IfErr result (λ fault. fault ≡ Memory) }
 {
-    let argument = Term::mk_var(alloc, "x", &Ty::tyvar(alloc, "A")?)?;
-    Term::mk_comb(alloc, predicate, &argument)
+    Term::mk_comb(alloc, predicate, &argument(alloc)?)
 }
 
 fn select_conclusion(alloc: Global, predicate: &Term) -> Result<Term, Fault>

@@ -1,12 +1,14 @@
 // Definitions and declarations (HOL Light's `new_basic_definition`, and constants and types without a definition).
-ghost use Rattle.std.specs.Prelude.{◌≡◌, IfOk, OnErr};
+ghost use Rattle.std.specs.Prelude.{◌≡◌, true, IfOk, OnErr};
+ghost use Rattle.hol_model.specs.Terms.Name.{is_constant_name};
+ghost use Rattle.hol_model.specs.Terms.NamedTerm.{constant, equation};
+ghost use Rattle.hol_model.specs.Logic.Legality.{own_type};
 ghost use Rattle.hol_model.specs.Logic.KnownTerm as spec;
 ghost use Rattle.hol_model.specs.Logic.Theory.{IsEarlier};
 ghost use Rattle.hol_model.specs.Kernel.Rules as outcome;
 ghost use Rattle.hol_model.specs.Kernel.Outcome.{Answers};
 ghost use Rattle.hol_kernel.specs.Leaving.{leaving};
 
-use crate::entries::StoredEntry;
 use crate::equation::equation;
 use crate::known::knows_type;
 use crate::legality::{is_closed, is_fixed, is_new_name, reflects};
@@ -16,6 +18,15 @@ use hol_model::{Fault, is_constant_name, is_declared_type_name};
 use hol_terms::Term;
 use hol_types::Ty;
 use std::alloc::Global;
+
+// The equation of a constant and the term that it stands for.
+fn defining_equation(alloc: Global, name: &str, term: &Term) -> Result<Term, Fault>
+    requires { is_constant_name name.now ≡ true }
+    ensures { Answers result (outcome.limited (equation (constant name.now (own_type term.now)) term.now)) }
+{
+    let constant = Term::mk_const(alloc, name, term.ty())?;
+    equation(alloc, &constant, term)
+}
 
 impl Theory {
     /// Defines a constant; the theorem is `|- c = t`, and stands on the theory with the definition. BadName where no constant
@@ -47,15 +58,9 @@ impl Theory {
         if self.is_full() {
             return Err(Fault::TooLarge);
         }
-        let constant = Term::mk_const(alloc, name, term.ty())?;
-        let conclusion = equation(alloc, &constant, term)?;
-        let stored = StoredEntry::Definition(
-            String::from_str(alloc, name)?,
-            term.type_of(alloc)?,
-            term.copy(alloc)?,
-        );
-        let entries = self.entries()?.with(alloc, stored)?;
-        let theorem = Thm::new(alloc, entries.copy()?, Vec::new(alloc), conclusion)?;
+        let conclusion = defining_equation(alloc, name, term)?;
+        let entries = self.entries().with_definition(alloc, name, term)?;
+        let theorem = Thm::new(alloc, &entries, Vec::new(alloc), conclusion)?;
         self.grow_by_constant(alloc, name, term.ty(), entries)?;
         Ok(theorem)
     }
@@ -76,8 +81,7 @@ impl Theory {
         if self.is_full() {
             return Err(Fault::TooLarge);
         }
-        let stored = StoredEntry::DeclaredType(String::from_str(alloc, name)?);
-        let entries = self.entries()?.with(alloc, stored)?;
+        let entries = self.entries().with_type(alloc, name)?;
         self.grow_by_type(alloc, name, entries)
     }
 
@@ -104,8 +108,7 @@ impl Theory {
         if self.is_full() {
             return Err(Fault::TooLarge);
         }
-        let stored = StoredEntry::DeclaredConstant(String::from_str(alloc, name)?, ty.copy(alloc)?);
-        let entries = self.entries()?.with(alloc, stored)?;
+        let entries = self.entries().with_constant(alloc, name, ty)?;
         self.grow_by_constant(alloc, name, ty, entries)
     }
 }

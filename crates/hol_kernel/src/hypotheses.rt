@@ -1,5 +1,5 @@
 // Hypotheses: in the order of their images, and no two of them alpha-equivalent.
-ghost use Rattle.std.specs.Prelude.{◌≡◌, ◌<◌, ◌≤◌, ◌+◌, ◌++◌, [], IfOk, IfErr, OnOk, IfSome, length, take, drop};
+ghost use Rattle.std.specs.Prelude.{◌≡◌, ◌<◌, ◌≤◌, ◌+◌, ◌++◌, [], ◌∷◌, IfOk, IfErr, OnOk, IfSome, length, take, drop};
 ghost use Rattle.std.specs.List.Sorted.{IsSearchInRange};
 ghost use Rattle.hol_model.specs.Kernel.Theorem.{AreOrdered};
 ghost use Rattle.hol_model.specs.Kernel.Theorem as spec;
@@ -68,6 +68,16 @@ pub fn is_free_in_hypotheses(hypotheses: &[Term], name: &str, ty: &Ty) -> bool
         .any(|hypothesis| is_free(hypothesis, name, ty))
 }
 
+/// A list of one hypothesis.
+pub fn one_hypothesis(alloc: Global, hypothesis: Term) -> Result<Vec<Term>, Fault>
+    ensures ok { IfOk result (λ all. all.items ≡ hypothesis ∷ []) }
+    ensures err { IfErr result (λ fault. fault ≡ Memory) }
+{
+    let mut all = Vec::new(alloc);
+    all.push(hypothesis)?;
+    Ok(all)
+}
+
 /// Copies of the terms.
 pub fn copies(alloc: Global, terms: &[Term]) -> Result<Vec<Term>, Fault>
     ensures ok { IfOk result (λ all. all.items ≡ terms.now) }
@@ -97,16 +107,16 @@ fn merged(alloc: Global, first: &[Term], second: &[Term]) -> Result<Vec<Term>, F
         let new = &second[right];
         match alpha_cmp(old, new) {
             Ordering::Less => {
-                all.push(old.copy(alloc)?)?;
+                push_copy(alloc, &mut all, old)?;
                 left += 1;
             }
             Ordering::Equal => {
-                all.push(old.copy(alloc)?)?;
+                push_copy(alloc, &mut all, old)?;
                 left += 1;
                 right += 1;
             }
             Ordering::Greater => {
-                all.push(new.copy(alloc)?)?;
+                push_copy(alloc, &mut all, new)?;
                 right += 1;
             }
         }
@@ -167,7 +177,7 @@ fn put_new<'a>(
         Err(index) => {
             let (front, back) = others.split_at(index);
             push_copies(alloc, all, front)?;
-            all.push(new.copy(alloc)?)?;
+            push_copy(alloc, all, new)?;
             Ok(back)
         }
     }
@@ -187,13 +197,13 @@ fn put_old<'a>(
     match place_in(others, old) {
         Ok(index) => {
             push_copies(alloc, all, &others[..index])?;
-            all.push(old.copy(alloc)?)?;
+            push_copy(alloc, all, old)?;
             Ok(&others[index + 1..])
         }
         Err(index) => {
             let (front, back) = others.split_at(index);
             push_copies(alloc, all, front)?;
-            all.push(old.copy(alloc)?)?;
+            push_copy(alloc, all, old)?;
             Ok(back)
         }
     }
@@ -217,8 +227,17 @@ fn push_copies(alloc: Global, all: &mut Vec<Term>, terms: &[Term]) -> Result<(),
     ensures err { IfErr result (λ fault. fault ≡ Memory) }
 {
     for term in terms {
-        all.push(term.copy(alloc)?)?;
+        push_copy(alloc, all, term)?;
     }
+    Ok(())
+}
+
+// Puts a copy of a term behind others.
+fn push_copy(alloc: Global, all: &mut Vec<Term>, term: &Term) -> Result<(), Fault>
+    ensures ok { OnOk result (all.new.items ≡ all.old.items ++ term.now ∷ []) }
+    ensures err { IfErr result (λ fault. fault ≡ Memory) }
+{
+    all.push(term.copy(alloc)?)?;
     Ok(())
 }
 

@@ -53,7 +53,7 @@ impl Theory {
         ensures outcome { AnswersSuch result (spec.inst_refusal self.now theta.now theorem.now) (spec.IsInst self.now theta.now theorem.now) }
         ensures stands_on { IfOk result (λ answer. answer.theory ≡ self.now) }
     {
-        changed(alloc, self.entries()?, &Change::Variables(theta), theorem)
+        changed(alloc, self.entries(), &Change::Variables(theta), theorem)
     }
 
     /// INST_TYPE: type variables replaced by types, all at once, by a list of pairs (new, old). NotVariable where an old type
@@ -67,7 +67,7 @@ impl Theory {
         if let Some(fault) = type_replacements_refusal(theta, self) {
             return Err(fault);
         }
-        changed(alloc, self.entries()?, &Change::Types(theta), theorem)
+        changed(alloc, self.entries(), &Change::Types(theta), theorem)
     }
 }
 
@@ -81,16 +81,16 @@ enum Change<'a> {
 // The theorem with each of its terms changed, where that is shown to follow.
 fn changed(
     alloc: Global,
-    entries: Entries,
+    entries: &Entries,
     change: &Change<'_>,
     theorem: &Thm,
 ) -> Result<Thm, Fault>
     requires replacements { MayChange change.now }
-    requires legal { IsLegal entries }
-    requires derivable { IsTheorem theorem.now → Derivable entries (map (change_of change.now) (map image theorem.now.hypotheses)) (change_of change.now (image theorem.now.conclusion)) }
+    requires legal { IsLegal entries.now }
+    requires derivable { IsTheorem theorem.now → Derivable entries.now (map (change_of change.now) (map image theorem.now.hypotheses)) (change_of change.now (image theorem.now.conclusion)) }
     ensures outcome { AnswersSuch result (spec.or_too_large None (spec.all_fit (change_of change.now)
-        (theorem.now.conclusion ∷ theorem.now.hypotheses))) (spec.IsChanged entries (change_of change.now) theorem.now) }
-    ensures stands_on { IfOk result (λ answer. answer.theory ≡ entries) }
+        (theorem.now.conclusion ∷ theorem.now.hypotheses))) (spec.IsChanged entries.now (change_of change.now) theorem.now) }
+    ensures stands_on { IfOk result (λ answer. answer.theory ≡ entries.now) }
 {
     let conclusion = changed_term(alloc, change, theorem.concl())?;
     let instances = changed_terms(alloc, change, theorem.hyps())?;

@@ -16,7 +16,9 @@ use crate::entries::Entries;
 use crate::equation::{
     abstraction, application, combination, dest_eq, dest_trivial_redex, equation,
 };
-use crate::hypotheses::{copies, is_free_in_hypotheses, with_hypotheses, without_hypothesis};
+use crate::hypotheses::{
+    copies, is_free_in_hypotheses, one_hypothesis, with_hypotheses, without_hypothesis,
+};
 use crate::known::knows_type;
 use crate::theory::Theory;
 use crate::thm::Thm;
@@ -29,15 +31,15 @@ use std::alloc::Global;
 // The theorem `left = right`, where it is shown to be one.
 fn equation_theorem(
     alloc: Global,
-    entries: Entries,
+    entries: &Entries,
     hypotheses: Vec<Term>,
     left: &Term,
     right: &Term,
 ) -> Result<Thm, Fault>
     requires typed { type_of left.now ≡ type_of right.now }
-    requires theorem { (ty : HolType) → type_of left.now ≡ Some ty → IsTheorem (record { theory = entries; hypotheses = hypotheses.items; conclusion = equation left.now right.now }) }
-    ensures outcome { Answers result (outcome.concluded entries hypotheses.items (equation left.now right.now)) }
-    ensures stands_on { IfOk result (λ answer. answer.theory ≡ entries) }
+    requires theorem { (ty : HolType) → type_of left.now ≡ Some ty → IsTheorem (record { theory = entries.now; hypotheses = hypotheses.items; conclusion = equation left.now right.now }) }
+    ensures outcome { Answers result (outcome.concluded entries.now hypotheses.items (equation left.now right.now)) }
+    ensures stands_on { IfOk result (λ answer. answer.theory ≡ entries.now) }
 {
     let _typed = left.ty();
     let conclusion = equation(alloc, left, right)?;
@@ -63,7 +65,7 @@ impl Theory {
         ensures outcome { Answers result (outcome.refl_outcome self.now term.now) }
         ensures stands_on { IfOk result (λ answer. answer.theory ≡ self.now) }
     {
-        equation_theorem(alloc, self.entries()?, Vec::new(alloc), term, term)
+        equation_theorem(alloc, self.entries(), Vec::new(alloc), term, term)
     }
 
     /// ASSUME: `p |- p`. NotBool where the term is no formula; then refused where the theory does not know it, as
@@ -87,9 +89,9 @@ impl Theory {
         ensures outcome { Answers result (outcome.assume_outcome self.now term.now) }
         ensures stands_on { IfOk result (λ answer. answer.theory ≡ self.now) }
     {
-        let mut hypotheses = Vec::new(alloc);
-        hypotheses.push(term.copy(alloc)?)?;
-        Thm::new(alloc, self.entries()?, hypotheses, term.copy(alloc)?)
+        let conclusion = term.copy(alloc)?;
+        let hypotheses = one_hypothesis(alloc, term.copy(alloc)?)?;
+        Thm::new(alloc, self.entries(), hypotheses, conclusion)
     }
 
     /// TRANS: from `a = b` and `b = c`, `a = c`. NotEquation where a conclusion is no equation; NotAlpha where the middle
@@ -128,7 +130,7 @@ impl Theory {
             return Err(Fault::NotEquation);
         };
         let hypotheses = with_hypotheses(alloc, first.hyps(), second.hyps())?;
-        equation_theorem(alloc, self.entries()?, hypotheses, left, right)
+        equation_theorem(alloc, self.entries(), hypotheses, left, right)
     }
 
     /// EQ_MP: from `p = q` and `p`, `q`. NotEquation where the first conclusion is no equation; NotAlpha where its left side
@@ -161,7 +163,7 @@ impl Theory {
             return Err(Fault::NotEquation);
         };
         let hypotheses = with_hypotheses(alloc, first.hyps(), second.hyps())?;
-        Thm::new(alloc, self.entries()?, hypotheses, right.copy(alloc)?)
+        Thm::new(alloc, self.entries(), hypotheses, right.copy(alloc)?)
     }
 
     /// MK_COMB: from `f = g` and `x = y`, `f x = g y`. NotEquation where a conclusion is no equation; TypeMismatch where `f`
@@ -178,10 +180,10 @@ impl Theory {
         let Some((left_argument, right_argument)) = dest_eq(second.concl()) else {
             return Err(Fault::NotEquation);
         };
-        let entries = self.entries()?;
-        let hypotheses = with_hypotheses(alloc, first.hyps(), second.hyps())?;
+        let entries = self.entries();
         let left = application(alloc, left_function, left_argument)?;
         let right = combination(alloc, right_function, right_argument)?;
+        let hypotheses = with_hypotheses(alloc, first.hyps(), second.hyps())?;
         equation_theorem(alloc, entries, hypotheses, &left, &right)
     }
 
@@ -205,10 +207,10 @@ impl Theory {
         if is_free_in_hypotheses(theorem.hyps(), name, ty) {
             return Err(Fault::FreeInHypothesis);
         }
-        let entries = self.entries()?;
-        let hypotheses = copies(alloc, theorem.hyps())?;
+        let entries = self.entries();
         let left = abstraction(alloc, binder, left_body)?;
         let right = abstraction(alloc, binder, right_body)?;
+        let hypotheses = copies(alloc, theorem.hyps())?;
         equation_theorem(alloc, entries, hypotheses, &left, &right)
     }
 
@@ -237,7 +239,7 @@ impl Theory {
         let Some(body) = dest_trivial_redex(term) else {
             return Err(Fault::NotTrivialBeta);
         };
-        equation_theorem(alloc, self.entries()?, Vec::new(alloc), term, body)
+        equation_theorem(alloc, self.entries(), Vec::new(alloc), term, body)
     }
 
     /// DEDUCT_ANTISYM_RULE: from `p` and `q`, `p = q`, each without the other's conclusion among its hypotheses. TooLarge
@@ -248,7 +250,7 @@ impl Theory {
         ensures outcome { Answers result (outcome.deduct_antisym_outcome self.now first.now second.now) }
         ensures stands_on { IfOk result (λ answer. answer.theory ≡ self.now) }
     {
-        let entries = self.entries()?;
+        let entries = self.entries();
         let from_first = without_hypothesis(alloc, second.concl(), first.hyps())?;
         let from_second = without_hypothesis(alloc, first.concl(), second.hyps())?;
         let hypotheses = with_hypotheses(alloc, &from_first, &from_second)?;

@@ -3,6 +3,7 @@ ghost use Rattle.std.specs.Prelude.{◌≡◌, ◌+◌, ◌<◌, ◌||◌, ℕ, 
 ghost use Rattle.std.specs.Str.{bytes_eq};
 ghost use Rattle.hol_model.specs.Kernel.Rules as rules;
 ghost use Rattle.std.specs.Option.{option_map};
+ghost use Rattle.indexmap.specs.IndexMap.{get_by_text};
 ghost use Rattle.hol_model.specs.Logic.Theory.{generic_type};
 ghost use Rattle.hol_model.specs.Logic.KnownTerm as spec;
 ghost use Rattle.hol_model.specs.declared.fault.Fault.TheVariants.{Memory};
@@ -43,16 +44,14 @@ impl Model for Theory {
 }
 
 impl Theory {
-    ghost use Rattle.hol_model.specs.Logic.Theory.{equality_name, choice_name, equality_type, choice_type, type_a, IsLegal};
+    ghost use Rattle.hol_model.specs.Logic.Theory.{IsLegal};
 
     /// The theory without definitions and declarations, of which `=` and `@` are the constants. Only memory refuses it.
     pub fn new(alloc: Global) -> Result<Theory, Fault>
         ensures ok { IfOk result (λ theory. theory ≡ []) }
         ensures err { IfErr result (λ fault. fault ≡ Memory) }
     {
-        let mut constants = IndexMap::new(alloc);
-        constants.insert(String::from_str(alloc, "=")?, equality(alloc)?)?;
-        constants.insert(String::from_str(alloc, "@")?, choice(alloc)?)?;
+        let constants = primitive_constants(alloc)?;
         Ok(Theory {
             entries: Entries::new(),
             count: 0,
@@ -62,12 +61,11 @@ impl Theory {
     }
 
     /// The entries on which a new theorem stands.
-    pub(crate) fn entries(&self) -> Result<Entries, Fault>
-        ensures ok { IfOk result (λ entries. entries ≡ self.now) }
-        ensures err { IfErr result (λ fault. fault ≡ Memory) }
+    pub(crate) fn entries(&self) -> &Entries
+        ensures value { result.now ≡ self.now }
         ensures legal { IsLegal self.now }
     {
-        self.entries.copy()
+        &self.entries
     }
 
     /// The generic type of a constant, or `None` where there is no constant of the name. Each constant in a theorem has an
@@ -109,9 +107,7 @@ impl Theory {
         ensures err { IfErr result (λ fault. fault ≡ Memory) }
         ensures kept { OnErr result (self.new ≡ self.old) }
     {
-        let name = String::from_str(alloc, name)?;
-        let ty = ty.copy(alloc)?;
-        self.constants.insert(name, ty)?;
+        put_generic_type(alloc, &mut self.constants, name, ty)?;
         self.entries = entries;
         self.count += 1;
         Ok(())
@@ -139,4 +135,31 @@ impl Theory {
         self.count += 1;
         Ok(())
     }
+}
+
+// The generic types of `=` and `@`.
+fn primitive_constants(alloc: Global) -> Result<IndexMap<String, Ty>, Fault>
+    ensures ok { IfOk result (λ constants. (name : List ℕ) → get_by_text constants name ≡ generic_type [] name) }
+    ensures err { IfErr result (λ fault. fault ≡ Memory) }
+{
+    let mut constants = IndexMap::new(alloc);
+    put_generic_type(alloc, &mut constants, "=", &equality(alloc)?)?;
+    put_generic_type(alloc, &mut constants, "@", &choice(alloc)?)?;
+    Ok(constants)
+}
+
+// Puts a constant and its generic type into a table.
+fn put_generic_type(
+    alloc: Global,
+    constants: &mut IndexMap<String, Ty>,
+    name: &str,
+    ty: &Ty,
+) -> Result<(), Fault>
+    ensures ok { OnOk result ((other : List ℕ) → get_by_text constants.new other ≡ (if bytes_eq name.now other then Some ty.now else get_by_text constants.old other)) }
+    ensures err { IfErr result (λ fault. fault ≡ Memory) }
+    ensures kept { OnErr result ((other : List ℕ) → get_by_text constants.new other ≡ get_by_text constants.old other) }
+{
+    let name = String::from_str(alloc, name)?;
+    constants.insert(name, ty.copy(alloc)?)?;
+    Ok(())
 }

@@ -52,14 +52,15 @@ impl Thm {
     /// A theorem, where it is shown to be one.
     pub(crate) fn new(
         alloc: Global,
-        entries: Entries,
+        entries: &Entries,
         hypotheses: Vec<Term>,
         conclusion: Term,
     ) -> Result<Thm, Fault>
-        requires { IsTheorem (record { theory = entries; hypotheses = hypotheses.items; conclusion = conclusion }) }
-        ensures ok { IfOk result (λ thm. thm ≡ record { theory = entries; hypotheses = hypotheses.items; conclusion = conclusion }) }
+        requires { IsTheorem (record { theory = entries.now; hypotheses = hypotheses.items; conclusion = conclusion }) }
+        ensures ok { IfOk result (λ thm. thm ≡ record { theory = entries.now; hypotheses = hypotheses.items; conclusion = conclusion }) }
         ensures err { IfErr result (λ fault. fault ≡ Memory) }
     {
+        let entries = entries.copy()?;
         let node = Rc::new(
             alloc,
             TheoremNode {

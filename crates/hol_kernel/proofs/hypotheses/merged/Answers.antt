@@ -9,7 +9,7 @@ use Rattle.hol_kernel.proofs.hypotheses.merged.Goals.{then-loop-left-test+else-r
 pub loop-left-preserved-in-Less : goal.loop-left-preserved-in-Less
 loop-left-preserved-in-Less c =
     let order : nameless_cmp (image c.index-first-left.result) (image c.index-second-right.result) ≡ Less = cc (c.alpha_cmp.ensures, c.in-Less.is) in
-    let items : c.push.new.self.items ≡ c.loop-left.all.items ++ c.index-first-left.result ∷ [] = cc (c.in_ok-push-in-Less.ensures.items, c.in_ok-copy-in-Less.ensures.ok) in
+    let items : c.push_copy.new.all.items ≡ c.loop-left.all.items ++ c.index-first-left.result ∷ [] = c.in_ok-push_copy-in-Less.ensures.ok in
     rw items
     (merged-before c.args.first.now c.args.second.now c.requires c.loop-left.left c.loop-left.right c.loop-left.all.items c.loop-left.invariant c.index-first-left.result c.index-second-right.result
     (omega arith) (omega arith) c.index-first-left.is c.index-second-right.is order)
@@ -17,7 +17,7 @@ loop-left-preserved-in-Less c =
 pub loop-left-preserved-in-Equal : goal.loop-left-preserved-in-Equal
 loop-left-preserved-in-Equal c =
     let order : nameless_cmp (image c.index-first-left.result) (image c.index-second-right.result) ≡ Equal = cc (c.alpha_cmp.ensures, c.in-Equal.is) in
-    let items : c.push-in-Equal.new.self.items ≡ c.loop-left.all.items ++ c.index-first-left.result ∷ [] = cc (c.in_ok-push-in-Equal.ensures.items, c.in_ok-copy-in-Equal.ensures.ok) in
+    let items : c.push_copy-in-Equal.new.all.items ≡ c.loop-left.all.items ++ c.index-first-left.result ∷ [] = c.in_ok-push_copy-in-Equal.ensures.ok in
     rw items
     (merged-same c.args.first.now c.args.second.now c.requires c.loop-left.left c.loop-left.right c.loop-left.all.items c.loop-left.invariant c.index-first-left.result c.index-second-right.result
     (omega arith) (omega arith) c.index-first-left.is c.index-second-right.is order)
@@ -25,7 +25,7 @@ loop-left-preserved-in-Equal c =
 pub loop-left-preserved : goal.loop-left-preserved
 loop-left-preserved c =
     let order : nameless_cmp (image c.index-first-left.result) (image c.index-second-right.result) ≡ Greater = cc (c.alpha_cmp.ensures, c.in-Greater.is) in
-    let items : c.push-in-Greater.new.self.items ≡ c.loop-left.all.items ++ c.index-second-right.result ∷ [] = cc (c.in_ok-push-in-Greater.ensures.items, c.in_ok-copy-in-Greater.ensures.ok) in
+    let items : c.push_copy-in-Greater.new.all.items ≡ c.loop-left.all.items ++ c.index-second-right.result ∷ [] = c.in_ok-push_copy-in-Greater.ensures.ok in
     rw items
     (merged-after c.args.first.now c.args.second.now c.requires c.loop-left.left c.loop-left.right c.loop-left.all.items c.loop-left.invariant c.index-first-left.result c.index-second-right.result
     (omega arith) (omega arith) c.index-first-left.is c.index-second-right.is order)

@@ -15,4 +15,4 @@ new-requires c =
     let conclusion : image c.in_ok-conclusion.conclusion ≡ change (image c.args.theorem.now.conclusion) =
     c.in_ok-conclusion.ensures.ok ∙ ap (λ t. change (image t)) c.concl.ensures.value in
     theorem-alike _ _ _ _ _ _ refl items refl
-    (in_order c.args.entries c.requires.legal c.in_ok-instances.instances.items c.in_ok-conclusion.conclusion _ _ images conclusion (c.requires.derivable c.hyps.ensures.theorem))
+    (in_order c.args.entries.now c.requires.legal c.in_ok-instances.instances.items c.in_ok-conclusion.conclusion _ _ images conclusion (c.requires.derivable c.hyps.ensures.theorem))

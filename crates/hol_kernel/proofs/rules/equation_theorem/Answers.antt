@@ -9,5 +9,5 @@ returns-in_err-conclusion-clause-outcome c =
     let p = err_from_is_err_and c.from_residual.result c.from_residual.ensures.1 in
     rw (p.1, p.2) (elim c.in_err-conclusion.ensures [
       | inl memory ↦ inl memory
-      | inr refused ↦ inr (concluded-refused c.args.entries c.args.hypotheses.items (equation c.args.left.now c.args.right.now) _ refused)
+      | inr refused ↦ inr (concluded-refused c.args.entries.now c.args.hypotheses.items (equation c.args.left.now c.args.right.now) _ refused)
     ])

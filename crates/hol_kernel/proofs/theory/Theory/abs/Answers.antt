@@ -14,7 +14,7 @@ returns-in_err-left-clause-outcome c =
     let known : knows_type c.args.self.now c.in-Some.ty.now ≡ true = cc (c.knows_type.ensures, c.if-not-knows_type.false) in
     let fresh : is_free_in_hypotheses c.in-Some.name.now c.in-Some.ty.now c.args.theorem.now.hypotheses ≡ false =
     cc (c.is_free_in_hypotheses.ensures, c.if-is_free_in_hypotheses.false, c.hyps.ensures.value) in
-    let p = err_from_is_err_and c.from_residual-in_err-left.result c.from_residual-in_err-left.ensures.1 in
+    let p = err_from_is_err_and c.from_residual.result c.from_residual.ensures.1 in
     rw (p.1, p.2) (elim c.in_err-left.ensures [
       | inl memory ↦ inl memory
       | inr refused ↦ inr (abs-concluded c.args.self.now c.args.binder.now c.args.theorem.now _ _ _ _ binder dest known fresh
@@ -51,7 +51,7 @@ equation_theorem-requires-clause-typed c =
     let right : c.in_ok-right.right ≡ abstraction c.in-Some.name.now c.in-Some.ty.now c.in-Some-dest_eq.right_body.now =
     limited-is (abstraction c.in-Some.name.now c.in-Some.ty.now c.in-Some-dest_eq.right_body.now) c.in_ok-right.right
     (sym (abstraction-limited c.args.binder.now c.in-Some-dest_eq.right_body.now _ _ binder) ∙ c.in_ok-right.ensures) in
-    ap type_of left ∙ abs-types c.args.self.now c.entries.ensures.legal c.args.theorem.now c.requires c.concl.ensures.theorem c.in-Some.name.now c.in-Some.ty.now _ _ dest ∙ sym (ap type_of right)
+    ap type_of left ∙ abs-types c.args.self.now c.entries-entries.ensures.legal c.args.theorem.now c.requires c.concl.ensures.theorem c.in-Some.name.now c.in-Some.ty.now _ _ dest ∙ sym (ap type_of right)
 
 pub equation_theorem-requires-clause-theorem : goal.equation_theorem-requires-clause-theorem
 equation_theorem-requires-clause-theorem c = λ ty typed.
@@ -66,8 +66,8 @@ equation_theorem-requires-clause-theorem c = λ ty typed.
     let right : c.in_ok-right.right ≡ abstraction c.in-Some.name.now c.in-Some.ty.now c.in-Some-dest_eq.right_body.now =
     limited-is (abstraction c.in-Some.name.now c.in-Some.ty.now c.in-Some-dest_eq.right_body.now) c.in_ok-right.right
     (sym (abstraction-limited c.args.binder.now c.in-Some-dest_eq.right_body.now _ _ binder) ∙ c.in_ok-right.ensures) in
-    rw (left, right) (theorem-alike _ _ _ _ _ _ c.in_ok-entries.ensures.ok (c.in_ok-hypotheses.ensures.ok ∙ c.hyps-2.ensures.value) refl
-    (abs-theorem c.args.self.now c.entries.ensures.legal c.args.theorem.now c.requires c.concl.ensures.theorem _ _ _ _ dest known fresh))
+    rw (left, right) (theorem-alike _ _ _ _ _ _ c.entries-entries.ensures.value (c.in_ok-hypotheses.ensures.ok ∙ c.hyps-2.ensures.value) refl
+    (abs-theorem c.args.self.now c.entries-entries.ensures.legal c.args.theorem.now c.requires c.concl.ensures.theorem _ _ _ _ dest known fresh))
 
 pub returns-clause-outcome : goal.returns-clause-outcome
 returns-clause-outcome c =
@@ -83,4 +83,4 @@ returns-clause-outcome c =
     limited-is (abstraction c.in-Some.name.now c.in-Some.ty.now c.in-Some-dest_eq.right_body.now) c.in_ok-right.right
     (sym (abstraction-limited c.args.binder.now c.in-Some-dest_eq.right_body.now _ _ binder) ∙ c.in_ok-right.ensures) in
     answers-concluded _ _ _ _ _ _ _ _ _ _ (abs-concluded c.args.self.now c.args.binder.now c.args.theorem.now _ _ _ _ binder dest known fresh)
-    c.in_ok-entries.ensures.ok (c.in_ok-hypotheses.ensures.ok ∙ c.hyps-2.ensures.value) left right c.equation_theorem.ensures.outcome
+    c.entries-entries.ensures.value (c.in_ok-hypotheses.ensures.ok ∙ c.hyps-2.ensures.value) left right c.equation_theorem.ensures.outcome

@@ -8,7 +8,7 @@ use Rattle.hol_kernel.proofs.theory.Theory.beta_known.Goals as goal
 pub equation_theorem-requires-clause-theorem : goal.equation_theorem-requires-clause-theorem
 equation_theorem-requires-clause-theorem c = λ ty typed.
     let redex : dest_trivial_redex c.args.term.now ≡ Some c.in-Some.body.now = cc (c.in-Some.ensures) in
-    theorem-alike _ _ _ _ _ _ c.in_ok-entries.ensures.ok c.new.ensures.items refl
+    theorem-alike _ _ _ _ _ _ c.entries.ensures.value c.new.ensures.items refl
     (beta-theorem c.args.self.now c.entries.ensures.legal c.args.term.now c.in-Some.body.now ty redex (no_unknown c.args.self.now c.args.term.now c.requires) typed)
 
 pub returns-clause-outcome : goal.returns-clause-outcome
@@ -18,5 +18,5 @@ returns-clause-outcome c =
     let body = c.in-Some.body.now in
     let redex : dest_trivial_redex term ≡ Some body = cc (c.in-Some.ensures) in
     let is : beta_outcome theory term ≡ concluded theory [] (equation term body) = rw (redex, no_unknown theory term c.requires) refl in
-    answers-concluded c.equation_theorem.result (beta_outcome theory term) theory c.in_ok-entries.field-0 [] c.new.result.items term body term body is
-    c.in_ok-entries.ensures.ok c.new.ensures.items refl refl c.equation_theorem.ensures.outcome
+    answers-concluded c.equation_theorem.result (beta_outcome theory term) theory c.entries.result.now [] c.new.result.items term body term body is
+    c.entries.ensures.value c.new.ensures.items refl refl c.equation_theorem.ensures.outcome

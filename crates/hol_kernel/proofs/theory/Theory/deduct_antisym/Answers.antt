@@ -6,7 +6,7 @@ use Rattle.hol_kernel.proofs.theory.Theory.deduct_antisym.Goals as goal
 pub equation_theorem-requires-clause-typed : goal.equation_theorem-requires-clause-typed
 equation_theorem-requires-clause-typed c =
     cc (
-      deduct_antisym-types c.args.self.now c.entries.ensures.legal c.args.first.now c.args.second.now c.requires.first c.requires.second c.concl-3.ensures.theorem c.concl-4.ensures.theorem,
+      deduct_antisym-types c.args.self.now c.entries-entries.ensures.legal c.args.first.now c.args.second.now c.requires.first c.requires.second c.concl-3.ensures.theorem c.concl-4.ensures.theorem,
       c.concl-3.ensures.value,
       c.concl-4.ensures.value,
     )
@@ -28,5 +28,5 @@ equation_theorem-requires-clause-theorem c = λ ty typed.
       c.concl-2.ensures.value,
     ) in
     rw (c.concl-3.ensures.value, c.concl-4.ensures.value)
-    (theorem-alike _ _ _ _ _ _ c.in_ok-entries.ensures.ok items refl
-    (deduct_antisym-theorem c.args.self.now c.entries.ensures.legal first second c.requires.first c.requires.second c.concl-3.ensures.theorem c.concl-4.ensures.theorem))
+    (theorem-alike _ _ _ _ _ _ c.entries-entries.ensures.value items refl
+    (deduct_antisym-theorem c.args.self.now c.entries-entries.ensures.legal first second c.requires.first c.requires.second c.concl-3.ensures.theorem c.concl-4.ensures.theorem))

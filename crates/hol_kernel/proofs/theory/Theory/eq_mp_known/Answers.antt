@@ -10,7 +10,7 @@ new-requires c =
     let left = eq_mp-left c.args.first.now c.args.second.now c.concl.ensures.theorem _ _ first c.requires.fits in
     let items : c.in_ok-hypotheses.hypotheses.items ≡ with_hypotheses c.args.first.now.hypotheses c.args.second.now.hypotheses =
     cc (c.in_ok-hypotheses.ensures.ok, c.hyps.ensures.value, c.hyps-2.ensures.value) in
-    theorem-alike _ _ _ _ _ _ c.in_ok-entries.ensures.ok items c.in_ok-copy.ensures.ok
+    theorem-alike _ _ _ _ _ _ c.entries.ensures.value items c.in_ok-copy.ensures.ok
     (eq_mp-theorem c.args.self.now c.entries.ensures.legal c.args.first.now c.args.second.now c.requires.first c.requires.second c.concl.ensures.theorem c.hyps-2.ensures.theorem
     _ _ first left)
 
@@ -20,5 +20,5 @@ returns-clause-outcome c =
     let left = eq_mp-left c.args.first.now c.args.second.now c.concl.ensures.theorem _ _ first c.requires.fits in
     let items : c.in_ok-hypotheses.hypotheses.items ≡ with_hypotheses c.args.first.now.hypotheses c.args.second.now.hypotheses =
     cc (c.in_ok-hypotheses.ensures.ok, c.hyps.ensures.value, c.hyps-2.ensures.value) in
-    answers-made c.new-2.result _ _ _ _ _ _ _ (eq_mp-concluded c.args.self.now c.args.first.now c.args.second.now _ _ first left)
-    c.in_ok-entries.ensures.ok items c.in_ok-copy.ensures.ok c.new-2.ensures.ok c.new-2.ensures.err
+    answers-made c.new.result _ _ _ _ _ _ _ (eq_mp-concluded c.args.self.now c.args.first.now c.args.second.now _ _ first left)
+    c.entries.ensures.value items c.in_ok-copy.ensures.ok c.new.ensures.ok c.new.ensures.err

@@ -13,6 +13,6 @@ pub changed-requires-clause-derivable : goal.changed-requires-clause-derivable
 changed-requires-clause-derivable c = λ is.
     let theta = c.args.theta.now in
     let passes = passes_inst c.args.self.now theta c.requires.known in
-    rw c.in_ok-entries.ensures.ok
+    rw c.entries.ensures.value
     (inst_rule (replacement theta) (replacement-MayReplace c.args.self.now theta passes.keeps passes.types passes.instances)
     (standing c.args.self.now c.entries.ensures.legal c.args.theorem.now c.requires.theorem is))

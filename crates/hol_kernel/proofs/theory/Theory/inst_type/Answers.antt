@@ -10,6 +10,6 @@ pub changed-requires-clause-derivable : goal.changed-requires-clause-derivable
 changed-requires-clause-derivable c = λ is.
     let theta = c.args.theta.now in
     let none : type_replacements_refusal c.args.self.now theta ≡ None = cc (c.type_replacements_refusal.ensures) in
-    rw c.in_ok-entries.ensures.ok
+    rw c.entries.ensures.value
     (inst_type_rule (type_instance_of theta) (known_types c.args.self.now theta (passes_inst_type c.args.self.now theta none).known)
     (standing c.args.self.now c.entries.ensures.legal c.args.theorem.now c.requires is))

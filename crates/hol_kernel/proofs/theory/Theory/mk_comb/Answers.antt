@@ -13,7 +13,7 @@ combination-requires c =
     let second : dest_equation c.args.second.now.conclusion ≡ Some (c.in-Some-dest_eq.left_argument.now, c.in-Some-dest_eq.right_argument.now) =
     cc (c.in-Some-dest_eq.ensures, c.concl-2.ensures.value) in
     let left = applied c.in-Some.left_function.now c.in-Some-dest_eq.left_argument.now c.in_ok-left.left c.in_ok-left.ensures in
-    rw (mk_comb-types c.args.self.now c.entries.ensures.legal c.args.first.now c.args.second.now c.requires.first c.requires.second c.concl.ensures.theorem c.concl-2.ensures.theorem
+    rw (mk_comb-types c.args.self.now c.entries-entries.ensures.legal c.args.first.now c.args.second.now c.requires.first c.requires.second c.concl.ensures.theorem c.concl-2.ensures.theorem
     _ _ _ _ left.ty first second left.typed) refl
 
 pub returns-in_err-right-clause-outcome : goal.returns-in_err-right-clause-outcome
@@ -38,7 +38,7 @@ equation_theorem-requires-clause-typed c =
     let left = applied c.in-Some.left_function.now c.in-Some-dest_eq.left_argument.now c.in_ok-left.left c.in_ok-left.ensures in
     ap type_of left.is ∙ left.typed
     ∙ sym (ap type_of (limited-is (combination c.in-Some.right_function.now c.in-Some-dest_eq.right_argument.now) c.in_ok-right.right c.in_ok-right.ensures)
-    ∙ mk_comb-types c.args.self.now c.entries.ensures.legal c.args.first.now c.args.second.now c.requires.first c.requires.second c.concl.ensures.theorem c.concl-2.ensures.theorem
+    ∙ mk_comb-types c.args.self.now c.entries-entries.ensures.legal c.args.first.now c.args.second.now c.requires.first c.requires.second c.concl.ensures.theorem c.concl-2.ensures.theorem
     _ _ _ _ left.ty first second left.typed)
 
 pub equation_theorem-requires-clause-theorem : goal.equation_theorem-requires-clause-theorem
@@ -53,8 +53,8 @@ equation_theorem-requires-clause-theorem c = λ ty typed.
       left.is,
       limited-is (combination c.in-Some.right_function.now c.in-Some-dest_eq.right_argument.now) c.in_ok-right.right
           c.in_ok-right.ensures,
-    ) (theorem-alike _ _ _ _ _ _ c.in_ok-entries.ensures.ok items refl
-    (mk_comb-theorem c.args.self.now c.entries.ensures.legal c.args.first.now c.args.second.now c.requires.first c.requires.second c.concl.ensures.theorem c.concl-2.ensures.theorem
+    ) (theorem-alike _ _ _ _ _ _ c.entries-entries.ensures.value items refl
+    (mk_comb-theorem c.args.self.now c.entries-entries.ensures.legal c.args.first.now c.args.second.now c.requires.first c.requires.second c.concl.ensures.theorem c.concl-2.ensures.theorem
     _ _ _ _ ty first second (sym (ap type_of left.is) ∙ typed)))
 
 pub returns-clause-outcome : goal.returns-clause-outcome
@@ -68,14 +68,14 @@ returns-clause-outcome c =
     let right : c.in_ok-right.right ≡ combination c.in-Some.right_function.now c.in-Some-dest_eq.right_argument.now =
     limited-is (combination c.in-Some.right_function.now c.in-Some-dest_eq.right_argument.now) c.in_ok-right.right c.in_ok-right.ensures in
     answers-concluded _ _ _ _ _ _ _ _ _ _ (mk_comb-concluded c.args.self.now c.args.first.now c.args.second.now _ _ _ _ left.ty first second left.typed)
-    c.in_ok-entries.ensures.ok items left.is right c.equation_theorem.ensures.outcome
+    c.entries-entries.ensures.value items left.is right c.equation_theorem.ensures.outcome
 
 pub returns-in_err-left-clause-outcome : goal.returns-in_err-left-clause-outcome
 returns-in_err-left-clause-outcome c =
     let first : dest_equation c.args.first.now.conclusion ≡ Some (c.in-Some.left_function.now, c.in-Some.right_function.now) = cc (c.in-Some.ensures, c.concl.ensures.value) in
     let second : dest_equation c.args.second.now.conclusion ≡ Some (c.in-Some-dest_eq.left_argument.now, c.in-Some-dest_eq.right_argument.now) =
     cc (c.in-Some-dest_eq.ensures, c.concl-2.ensures.value) in
-    let p = err_from_is_err_and c.from_residual-in_err-left.result c.from_residual-in_err-left.ensures.1 in
+    let p = err_from_is_err_and c.from_residual.result c.from_residual.ensures.1 in
     rw (p.1, p.2) (elim c.in_err-left.ensures [
       | inl memory ↦ inl memory
       | inr refused ↦ inr (mk_comb-refused c.args.self.now c.args.first.now c.args.second.now _ _ _ _ _ first second refused)

@@ -12,13 +12,13 @@ grow_by_constant-requires-clause-legal c =
     let new : is_new_name c.args.self.now c.args.name.now ≡ true = cc (c.is_new_name.ensures, c.if-not-is_new_name.false) in
     let known : knows_type c.args.self.now c.args.ty.now ≡ true = cc (c.knows_type.ensures, c.if-not-knows_type.false) in
     let fixed : is_fixed c.args.ty.now ≡ true = cc (c.is_fixed.ensures, c.if-not-is_fixed.false) in
-    let is : c.in_ok-entries-2.entries ≡ declaration_of_constant c.args.name.now c.args.ty.now ∷ c.args.self.now =
-    cc (c.in_ok-entries-2.ensures.ok, c.in_ok-entries.ensures.ok, c.in_ok-from_str.ensures.ok, c.in_ok-copy.ensures.ok) in
+    let is : c.in_ok-entries.entries ≡ declaration_of_constant c.args.name.now c.args.ty.now ∷ c.args.self.now =
+    cc (c.in_ok-entries.ensures.ok, c.entries.ensures.value) in
     rw is (declared_constant-legal c.args.self.now c.entries.ensures.legal c.args.name.now c.args.ty.now named known fixed new)
 
 pub returns-clause-earlier : goal.returns-clause-earlier
 returns-clause-earlier c =
-    let is : c.in_ok-entries-2.entries ≡ declaration_of_constant c.args.name.now c.args.ty.now ∷ c.args.self.now =
-    cc (c.in_ok-entries-2.ensures.ok, c.in_ok-entries.ensures.ok, c.in_ok-from_str.ensures.ok, c.in_ok-copy.ensures.ok) in
-    only_grows (declaration_of_constant c.args.name.now c.args.ty.now) c.args.self.now c.grow_by_constant.new.self c.in_ok-entries-2.entries
+    let is : c.in_ok-entries.entries ≡ declaration_of_constant c.args.name.now c.args.ty.now ∷ c.args.self.now =
+    cc (c.in_ok-entries.ensures.ok, c.entries.ensures.value) in
+    only_grows (declaration_of_constant c.args.name.now c.args.ty.now) c.args.self.now c.grow_by_constant.new.self c.in_ok-entries.entries
     c.grow_by_constant.result is c.grow_by_constant.ensures.ok c.grow_by_constant.ensures.kept

@@ -7,7 +7,7 @@ use Rattle.hol_kernel.proofs.theory.Theory.refl_known.Goals as goal
 
 pub equation_theorem-requires-clause-theorem : goal.equation_theorem-requires-clause-theorem
 equation_theorem-requires-clause-theorem c = λ ty typed.
-    theorem-alike _ _ _ _ _ _ c.in_ok-entries.ensures.ok c.new.ensures.items refl
+    theorem-alike _ _ _ _ _ _ c.entries.ensures.value c.new.ensures.items refl
     (refl-theorem c.args.self.now c.entries.ensures.legal c.args.term.now ty (no_unknown c.args.self.now c.args.term.now c.requires) typed)
 
 pub returns-clause-outcome : goal.returns-clause-outcome
@@ -15,5 +15,5 @@ returns-clause-outcome c =
     let theory = c.args.self.now in
     let term = c.args.term.now in
     let is : refl_outcome theory term ≡ concluded theory [] (equation term term) = rw (no_unknown theory term c.requires) refl in
-    answers-concluded c.equation_theorem.result (refl_outcome theory term) theory c.in_ok-entries.field-0 [] c.new.result.items term term term term is
-    c.in_ok-entries.ensures.ok c.new.ensures.items refl refl c.equation_theorem.ensures.outcome
+    answers-concluded c.equation_theorem.result (refl_outcome theory term) theory c.entries.result.now [] c.new.result.items term term term term is
+    c.entries.ensures.value c.new.ensures.items refl refl c.equation_theorem.ensures.outcome

@@ -19,7 +19,7 @@ equation_theorem-requires-clause-theorem c = λ ty typed.
     let meet = trans-middle c.args.first.now c.args.second.now c.concl.ensures.theorem c.concl-2.ensures.theorem _ _ _ _ first second c.requires.fits in
     let items : c.in_ok-hypotheses.hypotheses.items ≡ with_hypotheses c.args.first.now.hypotheses c.args.second.now.hypotheses =
     cc (c.in_ok-hypotheses.ensures.ok, c.hyps.ensures.value, c.hyps-2.ensures.value) in
-    theorem-alike _ _ _ _ _ _ c.in_ok-entries.ensures.ok items refl
+    theorem-alike _ _ _ _ _ _ c.entries.ensures.value items refl
     (trans-theorem c.args.self.now c.entries.ensures.legal c.args.first.now c.args.second.now c.requires.first c.requires.second c.concl.ensures.theorem c.concl-2.ensures.theorem
     _ _ _ _ first second meet)
 
@@ -32,4 +32,4 @@ returns-clause-outcome c =
     cc (c.in_ok-hypotheses.ensures.ok, c.hyps.ensures.value, c.hyps-2.ensures.value) in
     answers-concluded c.equation_theorem.result _ _ _ _ _ c.in-Some.left.now c.in-Some-dest_eq.right.now _ _
     (trans-concluded c.args.self.now c.args.first.now c.args.second.now _ _ _ _ first second meet)
-    c.in_ok-entries.ensures.ok items refl refl c.equation_theorem.ensures.outcome
+    c.entries.ensures.value items refl refl c.equation_theorem.ensures.outcome
