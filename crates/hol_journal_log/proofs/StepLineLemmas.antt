@@ -7,7 +7,7 @@ use Rattle.hol_model.specs.Logs.LogLine.{LogRule, LogLine, inst_step, inst_type_
 use Rattle.hol_model.specs.Logs.LogLine.LogLine.{claim_line, theorem_line, new_constant_line}
 use Rattle.hol_model.specs.Goals.Goals.{Sequent}
 use Rattle.hol_journal.specs.Steps.{Step, by_inst, by_inst_type, by_definition, JournalEntry, derived, declared_constant, both_parts, terms_of, types_of}
-use Rattle.hol_journal_log.specs.LogWriting.{Written, Claimed, with_line, write_claim, write_entry, write_types, number_of_type, number_of_term, number_of_entry}
+use Rattle.hol_journal_log.specs.LogWriting.{Written, Claimed, with_line, write_claim, write_entry, write_types, number_of_type, number_of_term, number_of_entry, theorem_number}
 use Rattle.hol_journal_log.specs.Writing.{IsTypeWritten, IsTermWritten, AreTypesWritten, AreTermsWritten, IsStepWritten}
 use Rattle.hol_journal_log.proofs.WrittenLemmas.{Grows, Grows-twice, write_term-grows, write_types-grows, write_terms-grows, one_more_type, one_more_term, first_of_more}
 
@@ -63,18 +63,22 @@ type_pair_turn old w one two front longer x ns new_ns a b are first second longe
 -- the lines of the instance rules
 
 pub inst_line : (old new : Written) (step : Step) (theorem number : ℕ) (slice pairs : List (NamedTerm × NamedTerm)) (numbers : List (ℕ × ℕ)) → step ≡ by_inst theorem pairs → slice ≡ pairs
-    → AreTermsWritten old new (both_parts slice) (both_parts numbers) → number ≡ number_of_entry new theorem → IsStepWritten old new step (inst_step number numbers)
+    → AreTermsWritten old new (both_parts slice) (both_parts numbers) → number ≡ number_of_entry old theorem → IsStepWritten old new step (inst_step number numbers)
 inst_line old new step theorem number slice pairs numbers is same are at =
     let terms : AreTermsWritten old new (both_parts pairs) (both_parts numbers) = subst (λ l. AreTermsWritten old new (both_parts l) (both_parts numbers)) same are in
     let lines : numbers ≡ map (λ pair. (number_of_term new pair.0, number_of_term new pair.1)) pairs = both_parts-injective numbers _ (terms.numbered ∙ both_parts-map (number_of_term new) pairs) in
-    subst (λ s. IsStepWritten old new s (inst_step number numbers)) (sym is) (record { written = terms.written; is_line = cc (lines, at) })
+    let grows : Grows old new = subst (Grows old) (sym terms.written) (write_terms-grows (both_parts pairs) old) in
+    let cited : number ≡ number_of_entry new theorem = at ∙ ap (λ entries. theorem_number entries theorem) (sym grows.theorems) in
+    subst (λ s. IsStepWritten old new s (inst_step number numbers)) (sym is) (record { written = terms.written; is_line = cc (lines, cited) })
 
 pub inst_type_line : (old new : Written) (step : Step) (theorem number : ℕ) (slice pairs : List (HolType × HolType)) (numbers : List (ℕ × ℕ)) → step ≡ by_inst_type theorem pairs → slice ≡ pairs
-    → AreTypesWritten old new (both_parts slice) (both_parts numbers) → number ≡ number_of_entry new theorem → IsStepWritten old new step (inst_type_step number numbers)
+    → AreTypesWritten old new (both_parts slice) (both_parts numbers) → number ≡ number_of_entry old theorem → IsStepWritten old new step (inst_type_step number numbers)
 inst_type_line old new step theorem number slice pairs numbers is same are at =
     let types : AreTypesWritten old new (both_parts pairs) (both_parts numbers) = subst (λ l. AreTypesWritten old new (both_parts l) (both_parts numbers)) same are in
     let lines : numbers ≡ map (λ pair. (number_of_type new pair.0, number_of_type new pair.1)) pairs = both_parts-injective numbers _ (types.numbered ∙ both_parts-map (number_of_type new) pairs) in
-    subst (λ s. IsStepWritten old new s (inst_type_step number numbers)) (sym is) (record { written = types.written; is_line = cc (lines, at) })
+    let grows : Grows old new = subst (Grows old) (sym types.written) (write_types-grows (both_parts pairs) old) in
+    let cited : number ≡ number_of_entry new theorem = at ∙ ap (λ entries. theorem_number entries theorem) (sym grows.theorems) in
+    subst (λ s. IsStepWritten old new s (inst_type_step number numbers)) (sym is) (record { written = types.written; is_line = cc (lines, cited) })
 
 -- what a step names has no theorem's line
 pub theorems_of_step : (old new : Written) (step : Step) (line : LogRule) → IsStepWritten old new step line → new.theorems ≡ old.theorems

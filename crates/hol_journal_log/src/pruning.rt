@@ -3,7 +3,7 @@ ghost use Rattle.std.specs.Prelude.{◌≡◌, length, map, IfOk, IfErr, OnOk};
 ghost use Rattle.hol_model.specs.declared.fault.Fault.TheVariants.{Memory};
 ghost use Rattle.hol_logtext.specs.Lines.{line_of};
 ghost use Rattle.hol_journal_log.specs.Claims.{claims_of};
-ghost use Rattle.hol_journal_log.specs.LogWriting.{nothing_written, log_written, log_lines};
+ghost use Rattle.hol_journal_log.specs.LogWriting.{nothing_written, log_lines};
 ghost use Rattle.hol_journal_log.specs.Pruning.{IsPruned, AreMade, AreFitting, HaveIdentifiers, HasNames, entries_of_claims};
 ghost use Rattle.hol_journal_log.specs.LogAccepted.{IsAccepted};
 ghost use Rattle.hol_journal_log.specs.Writer.{written};
@@ -90,26 +90,25 @@ fn log<'a>(
     ensures err { IfErr result (λ fault. fault ≡ Memory) }
 {
     let mut writer = Writer::new(alloc);
-    match write_log(alloc, recorder, marks, claims, &mut writer) {
-        Ok(()) => writer.finish(claims.len()),
-        Err(fault) => Err(fault),
-    }
+    lines_written(alloc, recorder, marks, claims, &mut writer)
 }
 
-// Writes the marked entries and the claims.
-fn write_log<'a>(
+// Writes the log of the marked entries and the claims, and takes its lines.
+fn lines_written<'a>(
     alloc: Global,
     recorder: &'a Recorder,
     marks: &[bool],
     claims: &[Claim<'a>],
     writer: &mut Writer<'a>,
-) -> Result<(), Fault>
+) -> Result<Vec<Line<'a>>, Fault>
     requires begun { written writer.old ≡ nothing_written }
     requires one_each { length marks.now ≡ length recorder.now.entries }
-    ensures ok { OnOk result (written writer.new ≡ log_written recorder.now.entries marks.now (claims_of claims.now)) }
-    ensures named { OnOk result (HasNames (written writer.new).lines) }
+    ensures lines { IfOk result (λ lines. map line_of lines.items ≡ log_lines recorder.now.entries marks.now (claims_of claims.now)) }
+    ensures named { IfOk result (λ lines. HasNames (map line_of lines.items)) }
     ensures err { IfErr result (λ fault. fault ≡ Memory) }
 {
     writer.write_entries(alloc, recorder, marks)?;
-    writer.write_claims(alloc, claims)
+    writer.write_claims(alloc, claims)?;
+    writer.enclose(claims.len())?;
+    Ok(writer.take_lines(alloc))
 }

@@ -28,6 +28,7 @@ use hol_terms::{Parts, Term};
 use hol_types::{Ty, TypeParts};
 use indexmap::{IndexMap, IndexSet};
 use std::alloc::Global;
+use std::mem::replace;
 
 /// The line of a type, whose parts are named by the numbers of their lines.
 #[derive(Clone, Copy, PartialEq, Eq, Hash)]
@@ -138,18 +139,6 @@ impl<'a> Writer<'a> {
         }
         self.lines.push(line.line())?;
         number(place)
-    }
-
-    // Puts the line of a term, unless it is there, and keeps its number for the mark.
-    fn put_marked(&mut self, mark: u32, line: TermLine<'a>) -> Result<u32, Fault>
-        requires { IsTrue (has_name (line_of_term line)) }
-        ensures ok { IfOk result (IsTermLineWritten (written self.old) (written self.new) (line_of_term line.entry)) }
-        ensures named { OnOk result (KeepsNames (written self.old) (written self.new)) }
-        ensures err { IfErr result (λ fault. fault ≡ Memory) }
-    {
-        let number = self.put_term(line)?;
-        self.hints.insert(mark, number)?;
-        Ok(number)
     }
 
     // Writes a type.
@@ -265,6 +254,7 @@ impl<'a> Writer<'a> {
     }
 
     // Writes a term, unless it is known to be written.
+    #[cycle(term_number)]
     fn term_number(&mut self, term: &'a Term) -> Result<u32, Fault>
         ensures ok { IfOk result (IsTermWritten (written self.old) (written self.new) term.now) }
         ensures named { OnOk result (KeepsNames (written self.old) (written self.new)) }
@@ -274,42 +264,16 @@ impl<'a> Writer<'a> {
         if let Some(number) = self.known_number(mark, term) {
             return Ok(number);
         }
-        if self.hints.contains_key(&mark) {
-            return self.whole_number(mark, term);
-        }
-        match term.parts() {
-            Parts::Variable(name, ty) => self.variable_number(name, ty),
-            Parts::Constant(name, ty) => {
-                let ty = self.type_number(ty)?;
-                self.put_marked(mark, TermLine::Constant(name, ty))
-            }
-            Parts::Combination(function, argument) => {
-                let function = self.term_number(function)?;
-                let argument = self.term_number(argument)?;
-                self.put_marked(mark, TermLine::Combination(function, argument))
-            }
-            Parts::Abstraction(name, ty, body) => {
-                let binder = self.variable_number(name, ty)?;
-                let body = self.term_number(body)?;
-                self.put_marked(mark, TermLine::Abstraction(binder, body))
-            }
-        }
-    }
-
-    // Writes a term whose mark is another term's too: its parts are not looked up whole, since each may be another's but for
-    // what stands deep in it.
-    fn whole_number(&mut self, mark: u32, term: &'a Term) -> Result<u32, Fault>
-        ensures ok { IfOk result (IsTermWritten (written self.old) (written self.new) term.now) }
-        ensures named { OnOk result (KeepsNames (written self.old) (written self.new)) }
-        ensures err { IfErr result (λ fault. fault ≡ Memory) }
-    {
-        let number = self.walked_number(term)?;
+        let is_new = !self.hints.contains_key(&mark);
+        let number = self.number_by_parts(is_new, term)?;
         self.hints.insert(mark, number)?;
         Ok(number)
     }
 
-    // Writes a term, part by part.
-    fn walked_number(&mut self, term: &'a Term) -> Result<u32, Fault>
+    // Writes a term behind its parts. Under a term whose mark is another term's too, no part is looked up whole, since each may be
+    // another's but for what stands deep in it.
+    #[cycle(term_number)]
+    fn number_by_parts(&mut self, by_marks: bool, term: &'a Term) -> Result<u32, Fault>
         ensures ok { IfOk result (IsTermWritten (written self.old) (written self.new) term.now) }
         ensures named { OnOk result (KeepsNames (written self.old) (written self.new)) }
         ensures err { IfErr result (λ fault. fault ≡ Memory) }
@@ -321,15 +285,29 @@ impl<'a> Writer<'a> {
                 self.put_term(TermLine::Constant(name, ty))
             }
             Parts::Combination(function, argument) => {
-                let function = self.walked_number(function)?;
-                let argument = self.walked_number(argument)?;
+                let function = self.part_number(by_marks, function)?;
+                let argument = self.part_number(by_marks, argument)?;
                 self.put_term(TermLine::Combination(function, argument))
             }
             Parts::Abstraction(name, ty, body) => {
                 let binder = self.variable_number(name, ty)?;
-                let body = self.walked_number(body)?;
+                let body = self.part_number(by_marks, body)?;
                 self.put_term(TermLine::Abstraction(binder, body))
             }
+        }
+    }
+
+    // Writes a part of a term: by its mark, or by its parts.
+    #[cycle(term_number)]
+    fn part_number(&mut self, by_marks: bool, part: &'a Term) -> Result<u32, Fault>
+        ensures ok { IfOk result (IsTermWritten (written self.old) (written self.new) part.now) }
+        ensures named { OnOk result (KeepsNames (written self.old) (written self.new)) }
+        ensures err { IfErr result (λ fault. fault ≡ Memory) }
+    {
+        if by_marks {
+            self.term_number(part)
+        } else {
+            self.number_by_parts(false, part)
         }
     }
 
@@ -454,13 +432,13 @@ impl<'a> Writer<'a> {
                 Ok(LogRule::Deduct(first, second))
             }
             Rule::Inst(theorem, pairs) => {
-                let pairs = self.term_pairs(alloc, pairs)?;
                 let theorem = self.theorem_number(*theorem)?;
+                let pairs = self.term_pairs(alloc, pairs)?;
                 Ok(LogRule::Inst(theorem, pairs))
             }
             Rule::InstType(theorem, pairs) => {
-                let pairs = self.type_pairs(alloc, pairs)?;
                 let theorem = self.theorem_number(*theorem)?;
+                let pairs = self.type_pairs(alloc, pairs)?;
                 Ok(LogRule::InstType(theorem, pairs))
             }
             Rule::Eta => Ok(LogRule::Eta),
@@ -476,8 +454,8 @@ impl<'a> Writer<'a> {
         ensures named { OnOk result (KeepsNames (written self.old) (written self.new)) }
         ensures err { IfErr result (λ fault. fault ≡ Memory) }
     {
-        self.theorems.insert(entry)?;
         self.lines.push(Line::Theorem(line))?;
+        self.theorems.insert(entry)?;
         Ok(())
     }
 
@@ -598,20 +576,22 @@ impl<'a> Writer<'a> {
         Ok(())
     }
 
-    /// The lines of the log, from the header to the end.
-    pub(crate) fn finish(self, claims: usize) -> Result<Vec<Line<'a>>, Fault>
-        ensures ok { IfOk result (λ lines. map line_of lines.items ≡ header_line second_version ∷ ((written self.entry).lines ++ end_line claims ∷ [])) }
+    /// Puts the header in front of the lines, and the end behind them.
+    pub(crate) fn enclose(&mut self, claims: usize) -> Result<(), Fault>
+        ensures ok { OnOk result ((written self.new).lines ≡ header_line second_version ∷ ((written self.old).lines ++ end_line claims ∷ [])) }
+        ensures named { OnOk result (KeepsNames (written self.old) (written self.new)) }
         ensures err { IfErr result (λ fault. fault ≡ Memory) }
     {
-        let Writer {
-            types: _,
-            terms: _,
-            hints: _,
-            theorems: _,
-            mut lines,
-        } = self;
-        lines.insert(0, Line::Header(Version::Second))?;
-        lines.push(Line::End(number(claims)?))?;
-        Ok(lines)
+        let claims = number(claims)?;
+        self.lines.insert(0, Line::Header(Version::Second))?;
+        self.lines.push(Line::End(claims))?;
+        Ok(())
+    }
+
+    /// Gives the lines away.
+    pub(crate) fn take_lines(&mut self, alloc: Global) -> Vec<Line<'a>>
+        ensures { map line_of result.items ≡ (written self.old).lines }
+    {
+        replace(&mut self.lines, Vec::new(alloc))
     }
 }
