@@ -1,7 +1,10 @@
 // Steps that the search for a short proof takes: what they prove is judged at the end.
+ghost use Rattle.std.specs.Prelude.{IfOk};
 ghost use Rattle.hol_journal.specs.Journal.{IsMade};
-ghost use Rattle.hol_equal.specs.Sequents.{Continues};
+ghost use Rattle.hol_equal.specs.Sequents.{Continues, IsHeld};
 
+use crate::formula_terms::equal_to;
+use hol_equal::trans;
 use hol_journal::{Rec, Recorder};
 use hol_model::Fault;
 use hol_terms::Term;
@@ -53,4 +56,35 @@ pub(crate) fn under(
 {
     let same = reflexive(recorder, alloc, function)?;
     applied(recorder, alloc, &same, premise)
+}
+
+/// From `p <=> q`, `(left <=> p) <=> (left <=> q)`.
+pub(crate) fn beside(
+    recorder: &mut Recorder,
+    alloc: Global,
+    left: &Term,
+    premise: &Rec,
+) -> Result<Rec, Fault>
+    requires { IsMade recorder.old premise.now }
+    ensures continues { Continues recorder.old recorder.new result }
+{
+    let function = equal_to(alloc, left)?;
+    under(recorder, alloc, &function, premise)
+}
+
+/// TRANS, where the second theorem was made.
+pub(crate) fn followed(
+    recorder: &mut Recorder,
+    alloc: Global,
+    first: Rec,
+    second: Result<Rec, Fault>,
+) -> Result<Rec, Fault>
+    requires first { IsMade recorder.old first }
+    requires second { IfOk second (IsHeld recorder.old) }
+    ensures continues { Continues recorder.old recorder.new result }
+{
+    match second {
+        Ok(second) => trans(recorder, alloc, &first, &second),
+        Err(fault) => Err(fault),
+    }
 }

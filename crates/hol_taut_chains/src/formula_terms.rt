@@ -20,6 +20,34 @@ pub fn proposition(alloc: Global, name: &str) -> Result<Term, Fault>
     Term::mk_var(alloc, name, &boolean)
 }
 
+// Puts a formula for the variable of this name.
+fn put(
+    alloc: Global,
+    terms: &mut Vec<(Term, Term)>,
+    formula: &Term,
+    name: &str,
+) -> Result<(), Fault>
+    requires { is_identifier name.now ≡ true }
+{
+    let variable = proposition(alloc, name)?;
+    let formula = formula.copy(alloc)?;
+    terms.push((formula, variable))?;
+    Ok(())
+}
+
+// Puts the formulas for the variables `p`, `q` and `r`.
+fn put_p_q_r(
+    alloc: Global,
+    terms: &mut Vec<(Term, Term)>,
+    p: &Term,
+    q: &Term,
+    r: &Term,
+) -> Result<(), Fault> {
+    put(alloc, terms, p, "p")?;
+    put(alloc, terms, q, "q")?;
+    put(alloc, terms, r, "r")
+}
+
 /// The formulas for the variables `p`, `q` and `r`.
 pub(crate) fn for_p_q_r(
     alloc: Global,
@@ -28,9 +56,7 @@ pub(crate) fn for_p_q_r(
     r: &Term,
 ) -> Result<Vec<(Term, Term)>, Fault> {
     let mut terms = Vec::new(alloc);
-    terms.push((p.copy(alloc)?, proposition(alloc, "p")?))?;
-    terms.push((q.copy(alloc)?, proposition(alloc, "q")?))?;
-    terms.push((r.copy(alloc)?, proposition(alloc, "r")?))?;
+    put_p_q_r(alloc, &mut terms, p, q, r)?;
     Ok(terms)
 }
 

@@ -4,65 +4,73 @@ use hol_model::Fault;
 use hol_terms::{Term, mk_eq};
 use std::alloc::Global;
 
+// The variables of the laws.
+
+fn p(alloc: Global) -> Result<Term, Fault> {
+    proposition(alloc, "p")
+}
+
+fn q(alloc: Global) -> Result<Term, Fault> {
+    proposition(alloc, "q")
+}
+
+fn r(alloc: Global) -> Result<Term, Fault> {
+    proposition(alloc, "r")
+}
+
+// `~` of a formula that was made.
+fn denied(alloc: Global, formula: Result<Term, Fault>) -> Result<Term, Fault> {
+    let formula = formula?;
+    negation(alloc, &formula)
+}
+
+// `<=>` between formulas that were made.
+fn iff(
+    alloc: Global,
+    left: Result<Term, Fault>,
+    right: Result<Term, Fault>,
+) -> Result<Term, Fault> {
+    let left = left?;
+    let right = right?;
+    mk_eq(alloc, &left, &right)
+}
+
 /// `(p <=> q) <=> (q <=> p)`.
 pub fn commuted(alloc: Global) -> Result<Term, Fault> {
-    let p = proposition(alloc, "p")?;
-    let q = proposition(alloc, "q")?;
-    let left = mk_eq(alloc, &p, &q)?;
-    let right = mk_eq(alloc, &q, &p)?;
-    mk_eq(alloc, &left, &right)
+    let left = iff(alloc, p(alloc), q(alloc));
+    let right = iff(alloc, q(alloc), p(alloc));
+    iff(alloc, left, right)
 }
 
 /// `(p <=> q <=> r) <=> (q <=> p <=> r)`.
 pub fn exchanged(alloc: Global) -> Result<Term, Fault> {
-    let p = proposition(alloc, "p")?;
-    let q = proposition(alloc, "q")?;
-    let r = proposition(alloc, "r")?;
-    let left = front(alloc, &p, &q, &r)?;
-    let right = front(alloc, &q, &p, &r)?;
-    mk_eq(alloc, &left, &right)
+    let left = iff(alloc, p(alloc), iff(alloc, q(alloc), r(alloc)));
+    let right = iff(alloc, q(alloc), iff(alloc, p(alloc), r(alloc)));
+    iff(alloc, left, right)
 }
 
-// `p <=> q <=> r`.
-fn front(alloc: Global, p: &Term, q: &Term, r: &Term) -> Result<Term, Fault> {
-    let rest = mk_eq(alloc, q, r)?;
-    mk_eq(alloc, p, &rest)
-}
-
-/// `(p <=> p <=> q) <=> q`.
+/// `(p <=> p <=> r) <=> r`.
 pub fn paired(alloc: Global) -> Result<Term, Fault> {
-    let p = proposition(alloc, "p")?;
-    let q = proposition(alloc, "q")?;
-    let left = front(alloc, &p, &p, &q)?;
-    mk_eq(alloc, &left, &q)
+    let left = iff(alloc, p(alloc), iff(alloc, p(alloc), r(alloc)));
+    iff(alloc, left, r(alloc))
 }
 
 /// `(~p <=> q) <=> ~(p <=> q)`.
 pub fn negated_left(alloc: Global) -> Result<Term, Fault> {
-    let p = proposition(alloc, "p")?;
-    let q = proposition(alloc, "q")?;
-    let denied = negation(alloc, &p)?;
-    let left = mk_eq(alloc, &denied, &q)?;
-    let chain = mk_eq(alloc, &p, &q)?;
-    let right = negation(alloc, &chain)?;
-    mk_eq(alloc, &left, &right)
+    let left = iff(alloc, denied(alloc, p(alloc)), q(alloc));
+    let right = denied(alloc, iff(alloc, p(alloc), q(alloc)));
+    iff(alloc, left, right)
 }
 
 /// `(p <=> ~q) <=> ~(p <=> q)`.
 pub fn negated_right(alloc: Global) -> Result<Term, Fault> {
-    let p = proposition(alloc, "p")?;
-    let q = proposition(alloc, "q")?;
-    let denied = negation(alloc, &q)?;
-    let left = mk_eq(alloc, &p, &denied)?;
-    let chain = mk_eq(alloc, &p, &q)?;
-    let right = negation(alloc, &chain)?;
-    mk_eq(alloc, &left, &right)
+    let left = iff(alloc, p(alloc), denied(alloc, q(alloc)));
+    let right = denied(alloc, iff(alloc, p(alloc), q(alloc)));
+    iff(alloc, left, right)
 }
 
 /// `~~p <=> p`.
 pub fn negated_twice(alloc: Global) -> Result<Term, Fault> {
-    let p = proposition(alloc, "p")?;
-    let denied = negation(alloc, &p)?;
-    let left = negation(alloc, &denied)?;
-    mk_eq(alloc, &left, &p)
+    let left = denied(alloc, denied(alloc, p(alloc)));
+    iff(alloc, left, p(alloc))
 }

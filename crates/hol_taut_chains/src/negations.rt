@@ -1,14 +1,14 @@
 // Formulas whose chains of `<=>` have no negated parts.
-ghost use Rattle.std.specs.Prelude.{IfOk};
+ghost use Rattle.std.specs.Prelude.{IfOk, IfSome};
 ghost use Rattle.hol_journal.specs.Journal.{IsMade};
 ghost use Rattle.hol_equal.specs.Sequents.{Continues, IsHeld};
 ghost use Rattle.hol_taut_chains.specs.Negations.{HasNegationLaws};
 
-use crate::chain_steps::reflexive;
+use crate::chain_steps::{followed, reflexive};
 use crate::chains::sides_of;
 use crate::parts::{beneath, joined};
 use crate::pulled::law_at;
-use hol_equal::{conclusion_of, trans};
+use hol_equal::conclusion_of;
 use hol_journal::{Rec, Recorder};
 use hol_model::Fault;
 use hol_taut_formulas::{Form, form_of};
@@ -54,56 +54,36 @@ pub fn has_negated_part(term: &Term) -> bool {
     }
 }
 
-// Of `p <=> q`, where `p` is negated, what is negated and `q`.
-fn sides_under_left(chain: &Term) -> Option<(&Term, &Term)> {
-    match sides_of(chain) {
-        Some((left, right)) => match negated(left) {
-            Some(core) => Some((core, right)),
-            None => None,
-        },
-        None => None,
+// The law that takes a negation out of a formula, with the formulas for its `p` and `q`.
+fn law_for<'a>(
+    _recorder: &Recorder,
+    laws: &'a NegationLaws,
+    term: &'a Term,
+) -> Option<(&'a Rec, &'a Term, &'a Term)>
+    requires laws { HasNegationLaws _recorder.now laws.now }
+    ensures { IfSome result (λ found. IsMade _recorder.now found.0.now) }
+{
+    if let Some(part) = negated(term) {
+        let core = negated(part)?;
+        return Some((&laws.twice, core, core));
     }
-}
-
-// Of `p <=> q`, where `q` is negated, `p` and what is negated.
-fn sides_under_right(chain: &Term) -> Option<(&Term, &Term)> {
-    match sides_of(chain) {
-        Some((left, right)) => match negated(right) {
-            Some(core) => Some((left, core)),
-            None => None,
-        },
-        None => None,
+    let (left, right) = sides_of(term)?;
+    if let Some(core) = negated(left) {
+        return Some((&laws.left, core, right));
     }
+    let core = negated(right)?;
+    Some((&laws.right, left, core))
 }
 
 // The right side of an equation of formulas.
 fn right_of(equation: &Term) -> Option<&Term> {
-    match sides_of(equation) {
-        Some((_, right)) => Some(right),
-        None => None,
-    }
+    let (_, right) = sides_of(equation)?;
+    Some(right)
 }
 
-// From `p <=> q` and `q <=> r`, `p <=> r`.
-fn followed(
-    recorder: &mut Recorder,
-    alloc: Global,
-    equation: &Rec,
-    next: Result<Rec, Fault>,
-) -> Result<Rec, Fault>
-    requires equation { IsMade recorder.old equation.now }
-    requires next { IfOk next (IsHeld recorder.old) }
-    ensures continues { Continues recorder.old recorder.new result }
-{
-    match next {
-        Ok(next) => trans(recorder, alloc, equation, &next),
-        Err(fault) => Err(fault),
-    }
-}
-
-// From `p <=> ~~q`, `p <=> q`; any other stays.
+// From `formula <=> other`, an equation with what a law makes of the other; one to which no law applies stays.
 #[tactic(auto, using(hol_equal::proofs::StepLemmas::still_made, crate::proofs::ChainLemmas::continued_twice))]
-fn without_two(
+fn rewritten(
     recorder: &mut Recorder,
     alloc: Global,
     laws: &NegationLaws,
@@ -114,21 +94,24 @@ fn without_two(
     ensures continues { Continues recorder.old recorder.new result }
 {
     let Some(right) = right_of(conclusion_of(recorder, &equation)) else {
-        return Err(Fault::BadShape);
-    };
-    let Some(once) = negated(right) else {
         return Ok(equation);
     };
-    let Some(core) = negated(once) else {
+    let Some((law, p, q)) = law_for(recorder, laws, right) else {
         return Ok(equation);
     };
-    let next = law_at(recorder, alloc, &laws.twice, core, core, core);
-    followed(recorder, alloc, &equation, next)
+    let next = law_at(recorder, alloc, law, p, q, q);
+    followed(recorder, alloc, equation, next)
 }
 
-// From `chain <=> (~p <=> q)`, `chain <=> ~(p <=> q)`; any other stays.
+// What is negated in the right side of an equation, with that side.
+fn negated_behind(equation: &Term) -> Option<(&Term, &Term)> {
+    let right = right_of(equation)?;
+    Some((right, negated(right)?))
+}
+
+// The same of `formula <=> ~other`, beneath the negation.
 #[tactic(auto, using(hol_equal::proofs::StepLemmas::still_made, crate::proofs::ChainLemmas::continued_twice))]
-fn pulled_left(
+fn rewritten_beneath(
     recorder: &mut Recorder,
     alloc: Global,
     laws: &NegationLaws,
@@ -138,98 +121,32 @@ fn pulled_left(
     requires equation { IsHeld recorder.old equation }
     ensures continues { Continues recorder.old recorder.new result }
 {
-    let Some(chain) = right_of(conclusion_of(recorder, &equation)) else {
-        return Err(Fault::BadShape);
-    };
-    let Some((p, q)) = sides_under_left(chain) else {
+    let Some((right, part)) = negated_behind(conclusion_of(recorder, &equation)) else {
         return Ok(equation);
     };
-    let next = law_at(recorder, alloc, &laws.left, p, q, q);
-    followed(recorder, alloc, &equation, next)
-}
-
-// From `chain <=> (p <=> ~q)`, `chain <=> ~(p <=> q)`; any other stays.
-#[tactic(auto, using(hol_equal::proofs::StepLemmas::still_made, crate::proofs::ChainLemmas::continued_twice))]
-fn pulled_right(
-    recorder: &mut Recorder,
-    alloc: Global,
-    laws: &NegationLaws,
-    equation: Rec,
-) -> Result<Rec, Fault>
-    requires laws { HasNegationLaws recorder.old laws.now }
-    requires equation { IsHeld recorder.old equation }
-    ensures continues { Continues recorder.old recorder.new result }
-{
-    let Some(chain) = right_of(conclusion_of(recorder, &equation)) else {
-        return Err(Fault::BadShape);
-    };
-    let Some((p, q)) = sides_under_right(chain) else {
+    let Some((law, p, q)) = law_for(recorder, laws, part) else {
         return Ok(equation);
     };
-    let next = law_at(recorder, alloc, &laws.right, p, q, q);
-    followed(recorder, alloc, &equation, next)
-}
-
-// From `chain <=> ~(p <=> ~q)`, `chain <=> ~~(p <=> q)`; any other stays.
-#[tactic(auto, using(hol_equal::proofs::StepLemmas::still_made, crate::proofs::ChainLemmas::continued_twice))]
-fn pulled_beneath(
-    recorder: &mut Recorder,
-    alloc: Global,
-    laws: &NegationLaws,
-    equation: Rec,
-) -> Result<Rec, Fault>
-    requires laws { HasNegationLaws recorder.old laws.now }
-    requires equation { IsHeld recorder.old equation }
-    ensures continues { Continues recorder.old recorder.new result }
-{
-    let Some(right) = right_of(conclusion_of(recorder, &equation)) else {
-        return Err(Fault::BadShape);
-    };
-    let Some(chain) = negated(right) else {
-        return Ok(equation);
-    };
-    let Some((p, q)) = sides_under_right(chain) else {
-        return Ok(equation);
-    };
-    let law = law_at(recorder, alloc, &laws.right, p, q, q);
+    let law = law_at(recorder, alloc, law, p, q, q);
     let next = beneath(recorder, alloc, right, law);
-    followed(recorder, alloc, &equation, next)
+    followed(recorder, alloc, equation, next)
 }
 
-// The same, and a double negation goes.
-#[tactic(auto, using(crate::proofs::ChainLemmas::continued_twice))]
-fn pulled_twice(
-    recorder: &mut Recorder,
-    alloc: Global,
-    laws: &NegationLaws,
-    equation: Rec,
-) -> Result<Rec, Fault>
-    requires laws { HasNegationLaws recorder.old laws.now }
-    requires equation { IsHeld recorder.old equation }
-    ensures continues { Continues recorder.old recorder.new result }
-{
-    match pulled_beneath(recorder, alloc, laws, equation) {
-        Ok(beneath) => without_two(recorder, alloc, laws, beneath),
-        Err(fault) => Err(fault),
-    }
-}
-
-// From `formula <=> chain`, where no side of the chain is negated twice, `formula <=> other`, where none is negated.
+// From `formula <=> other`, where at most the sides of the other are negated, and once, an equation where none is.
 #[tactic(auto, using(crate::proofs::ChainLemmas::continued_twice))]
 fn pulled_out(
     recorder: &mut Recorder,
     alloc: Global,
     laws: &NegationLaws,
-    equation: Result<Rec, Fault>,
+    equation: Rec,
 ) -> Result<Rec, Fault>
     requires laws { HasNegationLaws recorder.old laws.now }
-    requires equation { IfOk equation (IsHeld recorder.old) }
+    requires equation { IsHeld recorder.old equation }
     ensures continues { Continues recorder.old recorder.new result }
 {
-    let equation = equation?;
-    let first = pulled_left(recorder, alloc, laws, equation)?;
-    let second = pulled_twice(recorder, alloc, laws, first)?;
-    pulled_right(recorder, alloc, laws, second)
+    let first = rewritten(recorder, alloc, laws, equation)?;
+    let second = rewritten_beneath(recorder, alloc, laws, first)?;
+    rewritten(recorder, alloc, laws, second)
 }
 
 // The equation of a connective's formula, from those of its sides.
@@ -247,8 +164,10 @@ fn connected(
     requires right { IfOk right (IsHeld recorder.old) }
     ensures continues { Continues recorder.old recorder.new result }
 {
-    let whole = joined(recorder, alloc, term, left, right);
-    pulled_out(recorder, alloc, laws, whole)
+    match joined(recorder, alloc, term, left, right) {
+        Ok(whole) => pulled_out(recorder, alloc, laws, whole),
+        Err(fault) => Err(fault),
+    }
 }
 
 // The equation of a negation, from that of what is negated.
@@ -265,7 +184,7 @@ fn denied(
     ensures continues { Continues recorder.old recorder.new result }
 {
     match beneath(recorder, alloc, term, part) {
-        Ok(whole) => without_two(recorder, alloc, laws, whole),
+        Ok(whole) => rewritten(recorder, alloc, laws, whole),
         Err(fault) => Err(fault),
     }
 }

@@ -3,10 +3,9 @@ ghost use Rattle.hol_journal.specs.Journal.{IsMade};
 ghost use Rattle.hol_equal.specs.Sequents.{Continues};
 ghost use Rattle.hol_taut_chains.specs.Chains.{HasChainLaws};
 
-use crate::chain_steps::under;
+use crate::chain_steps::followed;
 use crate::chains::{sides_of, twofold};
-use crate::formula_terms::equal_to;
-use crate::pulled::{ChainLaws, front_and_rest, law_at, pulled};
+use crate::pulled::{ChainLaws, carried, front_and_rest, pulled};
 use hol_alpha::aconv;
 use hol_equal::{conclusion_of, trans};
 use hol_journal::{Rec, Recorder};
@@ -31,42 +30,6 @@ fn pulled_again(
     pulled(recorder, alloc, laws, part, rest)
 }
 
-// From `rest <=> part <=> shorter`, `(part <=> part <=> shorter) <=> shorter`.
-fn without_both(
-    recorder: &mut Recorder,
-    alloc: Global,
-    laws: &ChainLaws,
-    second: &Rec,
-) -> Result<Rec, Fault>
-    requires laws { HasChainLaws recorder.old laws.now }
-    requires second { IsMade recorder.old second.now }
-    ensures continues { Continues recorder.old recorder.new result }
-{
-    let Some((part, shorter)) = front_and_rest(conclusion_of(recorder, second)) else {
-        return Err(Fault::BadShape);
-    };
-    law_at(recorder, alloc, &laws.paired, part, shorter, shorter)
-}
-
-// From `rest <=> part <=> shorter`, `(part <=> rest) <=> shorter`.
-#[tactic(auto, using(crate::proofs::ChainLemmas::in_a_row))]
-fn paired(
-    recorder: &mut Recorder,
-    alloc: Global,
-    laws: &ChainLaws,
-    part: &Term,
-    second: &Rec,
-) -> Result<Rec, Fault>
-    requires laws { HasChainLaws recorder.old laws.now }
-    requires second { IsMade recorder.old second.now }
-    ensures continues { Continues recorder.old recorder.new result }
-{
-    let function = equal_to(alloc, part)?;
-    let beside = under(recorder, alloc, &function, second)?;
-    let without = without_both(recorder, alloc, laws, second)?;
-    trans(recorder, alloc, &beside, &without)
-}
-
 // `chain <=> shorter`, where the part stands at two places of the chain.
 #[tactic(auto, using(crate::proofs::ChainLemmas::in_a_row))]
 fn without_pair(
@@ -81,7 +44,7 @@ fn without_pair(
 {
     let first = pulled(recorder, alloc, laws, part, chain)?;
     let second = pulled_again(recorder, alloc, laws, &first)?;
-    let shorter = paired(recorder, alloc, laws, part, &second)?;
+    let shorter = carried(recorder, alloc, &laws.paired, part, &second)?;
     trans(recorder, alloc, &first, &shorter)
 }
 
@@ -129,6 +92,6 @@ pub(crate) fn without_pairs(
     let Some((next, rest)) = next_pair(recorder, &shorter) else {
         return Ok(shorter);
     };
-    let shortest = without_pairs(recorder, alloc, laws, next, rest, more - 1)?;
-    trans(recorder, alloc, &shorter, &shortest)
+    let shortest = without_pairs(recorder, alloc, laws, next, rest, more - 1);
+    followed(recorder, alloc, shorter, shortest)
 }

@@ -5,13 +5,13 @@ ghost use Rattle.hol_journal.specs.Journal.{IsMade};
 ghost use Rattle.hol_equal.specs.Sequents.{Continues, IsHeld};
 ghost use Rattle.hol_taut_chains.specs.Chains.{HasChainLaws};
 
-use crate::chain_steps::{applied, reflexive, under};
+use crate::chain_steps::{applied, followed, reflexive, under};
 use crate::chains::{has_chain, is_chain, sides_of};
 use crate::pairs::same_side;
 use crate::pulled::ChainLaws;
 use crate::sorted::normal_chain;
+use hol_equal::conclusion_of;
 use hol_equal::steps::deduct_antisym;
-use hol_equal::{conclusion_of, trans};
 use hol_journal::{Rec, Recorder};
 use hol_model::Fault;
 use hol_taut_formulas::{Form, form_of};
@@ -47,14 +47,36 @@ fn last_part(term: &Term) -> Option<&Term>
 
 // What is applied to it.
 fn function_of(term: &Term) -> Option<&Term> {
-    match term.dest_comb() {
-        Some((function, _)) => Some(function),
-        None => None,
-    }
+    let (function, _) = term.dest_comb()?;
+    Some(function)
 }
 
-/// The equation of a connective's formula, from those of its sides.
+// The connective of a formula with two sides.
+fn connective_of(term: &Term) -> Option<&Term> {
+    function_of(function_of(term)?)
+}
+
+// The equation of a connective's formula, from those of its sides.
 #[tactic(auto, using(hol_equal::proofs::StepLemmas::still_made, hol_equal::proofs::StepLemmas::now_made, crate::proofs::ChainLemmas::continued_twice))]
+fn joined_sides(
+    recorder: &mut Recorder,
+    alloc: Global,
+    term: &Term,
+    left: &Rec,
+    right: &Rec,
+) -> Result<Rec, Fault>
+    requires left { IsMade recorder.old left.now }
+    requires right { IsMade recorder.old right.now }
+    ensures continues { Continues recorder.old recorder.new result }
+{
+    let Some(connective) = connective_of(term) else {
+        return Err(Fault::BadShape);
+    };
+    let first = under(recorder, alloc, connective, left)?;
+    applied(recorder, alloc, &first, right)
+}
+
+/// The same, where that of the right side was made.
 pub(crate) fn joined(
     recorder: &mut Recorder,
     alloc: Global,
@@ -67,14 +89,7 @@ pub(crate) fn joined(
     ensures continues { Continues recorder.old recorder.new result }
 {
     let right = right?;
-    let Some(function) = function_of(term) else {
-        return Err(Fault::BadShape);
-    };
-    let Some(connective) = function_of(function) else {
-        return Err(Fault::BadShape);
-    };
-    let first = under(recorder, alloc, connective, left)?;
-    applied(recorder, alloc, &first, &right)
+    joined_sides(recorder, alloc, term, left, &right)
 }
 
 /// The equation of a connective's formula, from that of its last part.
@@ -92,6 +107,12 @@ pub(crate) fn beneath(
         Some(function) => under(recorder, alloc, function, &part),
         None => Err(Fault::BadShape),
     }
+}
+
+// Of `chain <=> p <=> p`, `p`.
+fn same_side_behind(equation: &Term) -> Option<&Term> {
+    let (_, rest) = sides_of(equation)?;
+    same_side(rest)
 }
 
 // `(p <=> p) <=> T`.
@@ -116,14 +137,11 @@ fn with_truth(
     requires normal { IsHeld recorder.old normal }
     ensures continues { Continues recorder.old recorder.new result }
 {
-    let Some((_, rest)) = sides_of(conclusion_of(recorder, &normal)) else {
-        return Err(Fault::BadShape);
-    };
-    let Some(side) = same_side(rest) else {
+    let Some(side) = same_side_behind(conclusion_of(recorder, &normal)) else {
         return Ok(normal);
     };
-    let same = truth_of(recorder, alloc, truth, side)?;
-    trans(recorder, alloc, &normal, &same)
+    let same = truth_of(recorder, alloc, truth, side);
+    followed(recorder, alloc, normal, same)
 }
 
 // `chain <=> normal`, or `chain <=> T`.

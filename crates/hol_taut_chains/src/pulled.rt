@@ -3,11 +3,11 @@ ghost use Rattle.hol_journal.specs.Journal.{IsMade};
 ghost use Rattle.hol_equal.specs.Sequents.{Continues};
 ghost use Rattle.hol_taut_chains.specs.Chains.{HasChainLaws};
 
-use crate::chain_steps::{instance, reflexive, under};
+use crate::chain_steps::{beside, followed, instance, reflexive};
 use crate::chains::{is_part, sides_of};
-use crate::formula_terms::{equal_to, for_p_q_r};
+use crate::formula_terms::for_p_q_r;
 use hol_alpha::aconv;
-use hol_equal::{conclusion_of, trans};
+use hol_equal::conclusion_of;
 use hol_journal::{Rec, Recorder};
 use hol_model::Fault;
 use hol_terms::Term;
@@ -22,7 +22,7 @@ pub struct ChainLaws {
     pub commuted: Rec,
     /// `|- (p <=> q <=> r) <=> (q <=> p <=> r)`.
     pub exchanged: Rec,
-    /// `|- (p <=> p <=> q) <=> q`.
+    /// `|- (p <=> p <=> r) <=> r`.
     pub paired: Rec,
 }
 
@@ -50,41 +50,40 @@ pub(crate) fn front_and_rest(equivalence: &Term) -> Option<(&Term, &Term)> {
     }
 }
 
-// From `right <=> part <=> rest`, `(left <=> part <=> rest) <=> (part <=> left <=> rest)`.
-fn exchanged(
+// From `right <=> part <=> rest`, a law at `left`, `part` and `rest`.
+fn law_behind(
     recorder: &mut Recorder,
     alloc: Global,
-    laws: &ChainLaws,
+    law: &Rec,
     left: &Term,
     inner: &Rec,
 ) -> Result<Rec, Fault>
-    requires laws { HasChainLaws recorder.old laws.now }
+    requires law { IsMade recorder.old law.now }
     requires inner { IsMade recorder.old inner.now }
     ensures continues { Continues recorder.old recorder.new result }
 {
     let Some((part, rest)) = front_and_rest(conclusion_of(recorder, inner)) else {
         return Err(Fault::BadShape);
     };
-    law_at(recorder, alloc, &laws.exchanged, left, part, rest)
+    law_at(recorder, alloc, law, left, part, rest)
 }
 
-// From `right <=> part <=> rest`, `(left <=> right) <=> (part <=> left <=> rest)`.
+/// From `right <=> part <=> rest`, `(left <=> right) <=> other` by a law of `left <=> part <=> rest`.
 #[tactic(auto, using(crate::proofs::ChainLemmas::in_a_row))]
-fn carried(
+pub(crate) fn carried(
     recorder: &mut Recorder,
     alloc: Global,
-    laws: &ChainLaws,
+    law: &Rec,
     left: &Term,
     inner: &Rec,
 ) -> Result<Rec, Fault>
-    requires laws { HasChainLaws recorder.old laws.now }
+    requires law { IsMade recorder.old law.now }
     requires inner { IsMade recorder.old inner.now }
     ensures continues { Continues recorder.old recorder.new result }
 {
-    let function = equal_to(alloc, left)?;
-    let beside = under(recorder, alloc, &function, inner)?;
-    let exchanged = exchanged(recorder, alloc, laws, left, inner)?;
-    trans(recorder, alloc, &beside, &exchanged)
+    let beside = beside(recorder, alloc, left, inner)?;
+    let next = law_behind(recorder, alloc, law, left, inner);
+    followed(recorder, alloc, beside, next)
 }
 
 // From `left <=> part <=> rest`, `(left <=> right) <=> (part <=> right <=> rest)`.
@@ -102,8 +101,8 @@ fn turned(
     ensures continues { Continues recorder.old recorder.new result }
 {
     let turned = law_at(recorder, alloc, &laws.commuted, left, right, right)?;
-    let carried = carried(recorder, alloc, laws, right, inner)?;
-    trans(recorder, alloc, &turned, &carried)
+    let carried = carried(recorder, alloc, &laws.exchanged, right, inner);
+    followed(recorder, alloc, turned, carried)
 }
 
 /// `chain <=> part <=> rest`, for a part of the chain.
@@ -129,7 +128,7 @@ pub(crate) fn pulled(
     }
     if is_part(part, right) {
         let inner = pulled(recorder, alloc, laws, part, right)?;
-        return carried(recorder, alloc, laws, left, &inner);
+        return carried(recorder, alloc, &laws.exchanged, left, &inner);
     }
     let inner = pulled(recorder, alloc, laws, part, left)?;
     turned(recorder, alloc, laws, left, right, &inner)

@@ -13,8 +13,7 @@ enum Shape {
     Atom(usize),
     Constantly(bool),
     Negated(usize),
-    // A connective by its number, and its sides.
-    Connected(u8, usize, usize),
+    Connected(Connective, usize, usize),
 }
 
 // A part, and at how many places it stands.
@@ -31,15 +30,6 @@ struct Parts {
     shapes: IndexSet<Shape>,
     parts: Vec<Part>,
     atoms: Vec<Term>,
-}
-
-fn number_of(connective: Connective) -> u8 {
-    match connective {
-        Connective::And => 0,
-        Connective::Or => 1,
-        Connective::Implies => 2,
-        Connective::Iff => 3,
-    }
 }
 
 impl Parts {
@@ -101,11 +91,7 @@ impl Parts {
             Form::Connected(connective, left, right) => {
                 let left = self.number(alloc, left)?;
                 let right = self.number(alloc, right)?;
-                self.put(
-                    alloc,
-                    Shape::Connected(number_of(connective), left, right),
-                    term,
-                )
+                self.put(alloc, Shape::Connected(connective, left, right), term)
             }
         }
     }

@@ -3,9 +3,8 @@ ghost use Rattle.hol_journal.specs.Journal.{IsMade};
 ghost use Rattle.hol_equal.specs.Sequents.{Continues};
 ghost use Rattle.hol_taut_chains.specs.Chains.{HasChainLaws};
 
-use crate::chain_steps::{reflexive, under};
+use crate::chain_steps::{beside, reflexive};
 use crate::chains::{first_part, is_sorted, sides_of, twofold};
-use crate::formula_terms::equal_to;
 use crate::pairs::{same_side, without_pairs};
 use crate::pulled::{ChainLaws, front_and_rest, pulled};
 use hol_equal::{conclusion_of, trans};
@@ -47,8 +46,7 @@ fn with_sorted(
     requires inner { IsMade recorder.old inner.now }
     ensures continues { Continues recorder.old recorder.new result }
 {
-    let function = equal_to(alloc, part)?;
-    let beside = under(recorder, alloc, &function, inner)?;
+    let beside = beside(recorder, alloc, part, inner)?;
     trans(recorder, alloc, first, &beside)
 }
 

@@ -1,5 +1,5 @@
 -- Connectives of words, bit by bit.
-use Rattle.std.proofs.Common.{◌≡◌, ℕ, ◌<◌, ◌+◌, ◌-◌, ◌%◌, ◌^◌, true, false, not, min, max, ◌∙◌, ap, arith, if◌then◌else◌}
+use Rattle.std.proofs.Common.{◌≡◌, ℕ, zero, suc, ◌<◌, ◌+◌, ◌-◌, ◌%◌, ◌^◌, List, [], ◌∷◌, map, get_or, refl, true, false, not, min, max, ◌∙◌, ap, arith, if◌then◌else◌}
 use Rattle.std.specs.Prelude.{nat_eq, bit_and, bit_or, ◌&&◌, ◌||◌}
 use Rattle.std.specs.Int.{bit_at}
 use lib.Bits.{bit_xor}
@@ -43,3 +43,9 @@ is_set_all row within = ap (λ n. nat_eq n 1) (bit_at_ones 64 row within)
 
 pub is_set_none : (row : ℕ) → is_set row 0 ≡ false
 is_set_none row = ap (λ n. nat_eq n 1) (bit_at-zero row)
+
+-- the value at a place in a row is the bit of the word there
+pub bit_of_place : (columns : List ℕ) (b place : ℕ) → is_set b (get_or columns place 0) ≡ get_or (map (is_set b) columns) place false
+bit_of_place [] b place = is_set_none b
+bit_of_place (column ∷ columns) b zero = refl
+bit_of_place (column ∷ columns) b (suc place) = bit_of_place columns b place

@@ -6,3 +6,5 @@ mod RowWords
 mod FalsityLemmas
 mod FewTerms
 mod Places
+mod PartsLemmas
+mod WordLemmas

@@ -1,7 +1,7 @@
 -- Rows as the bits of words.
 use Rattle.std.proofs.Common.{◌⊎◌, ◌*◌, ◌%◌, inl, inr, w64, ◌≡◌, ℕ, zero, suc, ◌<◌, ◌≤◌, ◌+◌, ◌-◌, ◌^◌, List, []}
 use Rattle.std.proofs.Common.{◌∷◌, ◌++◌, Bool, true, false, not, Some, None, map, drop, refl, sym, ◌∙◌, ap, ap₂, arith}
-use Rattle.std.specs.Prelude.{nat_eq, get_or}
+use Rattle.std.specs.Prelude.{nat_eq}
 use lib.Count
 use Rattle.std.specs.Int.{trailing_ones}
 use Rattle.std.proofs.lemmas.Bool.{cases_lt}
@@ -12,9 +12,9 @@ use Rattle.std.specs.List.{find, range_with_len}
 use Rattle.hol_model.specs.Propositional.Tautologies.{rows}
 use Rattle.hol_taut_formulas.specs.declared.numbered.Numbered.{Numbered}
 use Rattle.hol_taut_formulas.specs.NumberedFormulas.{truth_of, is_true_at}
-use Rattle.hol_taut_formulas.specs.Words.{is_set, in_each_row}
+use Rattle.hol_taut_formulas.specs.Words.{is_set, in_each_row, HasValues}
 use Rattle.hol_taut_formulas.specs.declared.decision.TheConstants.{MASKS}
-use Rattle.hol_taut_formulas.proofs.Bits.{is_set_all, is_set_none}
+use Rattle.hol_taut_formulas.proofs.Bits.{is_set_all, is_set_none, bit_of_place}
 use Rattle.hol_taut_formulas.proofs.Rows.{find-map, option_map-twice, find-none, find-first, first_after}
 
 -- the row of so many values at a bit of the masks
@@ -53,12 +53,6 @@ few_rows (suc (suc (suc (suc (suc (suc (suc n))))))) few = absurd (omega arith)
 
 -- ---- the values in a row
 
--- the value at a place in a row is the bit of the word there
-bit_of_place : (columns : List ℕ) (b place : ℕ) → is_set b (get_or columns place 0) ≡ get_or (map (is_set b) columns) place false
-bit_of_place [] b place = is_set_none b
-bit_of_place (column ∷ columns) b zero = refl
-bit_of_place (column ∷ columns) b (suc place) = bit_of_place columns b place
-
 bit_in_each_row : (b : ℕ) → b < 64 → (row : List Bool) → map (is_set b) (map in_each_row row) ≡ row
 bit_in_each_row b within [] = refl
 bit_in_each_row b within (true ∷ row) = ap₂ (λ x xs. x ∷ xs) (is_set_all b within) (bit_in_each_row b within row)
@@ -70,11 +64,6 @@ words row n = map in_each_row row ++ drop (6 - n) MASKS
 
 pub row_of_words : (row : List Bool) (n b : ℕ) → b < 64 → map (is_set b) (words row n) ≡ row ++ mask_row n b
 row_of_words row n b within = map-append (is_set b) (map in_each_row row) (drop (6 - n) MASKS) ∙ ap (λ values. values ++ mask_row n b) (bit_in_each_row b within row)
-
--- a word has the values of a formula in 64 rows
-pub record HasValues (formula : Numbered) (columns : List ℕ) (word : ℕ) : Type 0 where
-  pub fits : word < 2 ^ 64
-  pub bits : (b : ℕ) → b < 64 → is_set b word ≡ truth_of (λ place. is_set b (get_or columns place 0)) formula
 
 value_of_bit : (formula : Numbered) (row : List Bool) (n word b : ℕ) → HasValues formula (words row n) word → b < 64
     → is_true_at (row ++ mask_row n b) formula ≡ is_set b word

@@ -2,4 +2,5 @@ pub mod FalseRows
 pub mod Forms
 pub mod Words
 pub mod NumberedFormulas
+pub mod PutParts
 pub mod FewTerms

@@ -74,7 +74,7 @@ fn first_false_in_word(
 {
     let left = count - row.len();
     let columns = columns(alloc, row, left)?;
-    let word = values(formula, &columns);
+    let word = values(alloc, formula, &columns)?;
     let place = word.trailing_ones();
     if place >= 1 << left {
         return Ok(None);

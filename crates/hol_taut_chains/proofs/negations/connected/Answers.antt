@@ -3,4 +3,4 @@ use Rattle.hol_taut_chains.proofs.negations.connected.Goals as goal
 
 pub pulled_out-requires-clause-laws : goal.pulled_out-requires-clause-laws
 pulled_out-requires-clause-laws c =
-    still_negation_laws c.args.recorder.now c.joined-whole.new.recorder c.joined-whole.result c.args.laws.now c.joined-whole.ensures.continues c.requires.laws
+    still_negation_laws c.args.recorder.now c.joined.new.recorder c.joined.result c.args.laws.now c.joined.ensures.continues c.requires.laws
