@@ -1,8 +1,8 @@
 // Two hosts as one.
 ghost use Rattle.hol_host.specs.Host.{refiners_beside, conversions_beside};
 
-use crate::functions::{Converters, HostFail, Refiners};
-use hol_just::{Goal, Just, Step};
+use crate::functions::{Converters, Equated, HostFail, Refiners};
+use hol_just::{Goal, Step};
 use hol_terms::Term;
 use std::alloc::Global;
 
@@ -16,12 +16,7 @@ pub struct Beside<A, B> {
 impl<A: Converters, B: Converters> Converters for Beside<A, B> {
     ghost conversions = { λ host. conversions_beside (A.conversions host.first) (B.conversions host.second) };
 
-    fn convert(
-        &self,
-        alloc: Global,
-        name: &str,
-        term: &Term,
-    ) -> Option<Result<(Term, Just), HostFail>> {
+    fn convert(&self, alloc: Global, name: &str, term: &Term) -> Option<Equated> {
         match self.first.convert(alloc, name, term) {
             Some(answer) => Some(answer),
             None => self.second.convert(alloc, name, term),

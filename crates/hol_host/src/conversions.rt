@@ -2,16 +2,14 @@
 ghost use Rattle.std.specs.Prelude.{◌≡◌, ◌++◌, ◌∷◌, [], map, Contains, length, IfSome, IfNone, IsSome, OnOk, OnErr, ◌↔◌, string_bytes};
 ghost use Rattle.hol_model.specs.Kernel.Outcome.{Answers};
 
-use crate::functions::{Converters, HostFail};
+use crate::functions::{Converters, Equated};
 use crate::names::{is_full, is_same};
-use hol_just::Just;
 use hol_model::{Fault, is_identifier};
 use hol_terms::Term;
 use std::alloc::Global;
 
-/// A host's conversion: of a term, an equal one and why they are equal. It may answer anything, and equal calls may answer
-/// differently.
-pub type Converter = Box<dyn Fn(Global, &Term) -> Result<(Term, Just), HostFail>>;
+/// A host's conversion. It may answer anything, and equal calls may answer differently.
+pub type Converter = Box<dyn Fn(Global, &Term) -> Equated>;
 
 #[derive(Drop)]
 struct NamedConverter {
@@ -22,7 +20,7 @@ struct NamedConverter {
 
 impl NamedConverter {
     // What the function answers.
-    fn answer(&self, alloc: Global, term: &Term) -> Result<(Term, Just), HostFail>
+    fn answer(&self, alloc: Global, term: &Term) -> Equated
         ensures { Converter.post self.now.call alloc term.entry result }
     {
         (self.call)(alloc, term)
@@ -138,12 +136,7 @@ impl Converters for HostConvs {
           IsAnswerOfOne host.conversions.items (λ entry. string_bytes entry.name) (λ entry. MayAnswer (Converter.post entry.call) (λ t. t) equation_answered term answer) name;
     } };
 
-    fn convert(
-        &self,
-        alloc: Global,
-        name: &str,
-        term: &Term,
-    ) -> Option<Result<(Term, Just), HostFail>> {
+    fn convert(&self, alloc: Global, name: &str, term: &Term) -> Option<Equated> {
         let converter = self.named(name)?;
         Some(converter.answer(alloc, term))
     }

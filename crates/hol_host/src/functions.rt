@@ -54,18 +54,16 @@ impl<T: Drop> From<AllocFailed<T>> for HostFail {
     }
 }
 
+/// What a conversion answers for a term: an equal one and why the two are equal, or why there is none.
+pub type Equated = Result<(Term, Just), HostFail>;
+
 /// Conversions under names. They may answer anything, and equal calls may answer differently.
 pub trait Converters {
     /// Their names, and what the one of a name may answer.
     ghost conversions: { Self → HostConversions };
 
-    /// What the conversion of this name answers on the term, where there is one: a term, and why the two are equal.
-    fn convert(
-        &self,
-        alloc: Global,
-        name: &str,
-        term: &Term,
-    ) -> Option<Result<(Term, Just), HostFail>>
+    /// What the conversion of this name answers for the term, where there is one.
+    fn convert(&self, alloc: Global, name: &str, term: &Term) -> Option<Equated>
         ensures there { IsSome result ↔ Contains (conversions self.now).names name.now }
         ensures answer { IfSome result (λ answer. IfSome (equation_answered answer) ((conversions self.now).converts name.now term.now)) };
 }
@@ -88,12 +86,7 @@ pub struct NoHost;
 impl Converters for NoHost {
     ghost conversions = { λ host. no_host_conversions };
 
-    fn convert(
-        &self,
-        _alloc: Global,
-        _name: &str,
-        _term: &Term,
-    ) -> Option<Result<(Term, Just), HostFail>> {
+    fn convert(&self, _alloc: Global, _name: &str, _term: &Term) -> Option<Equated> {
         None
     }
 }

@@ -3,9 +3,9 @@ ghost use Rattle.std.specs.Prelude.{◌≡◌, ◌++◌, ◌∷◌, [], map, Con
 ghost use Rattle.hol_model.specs.Kernel.Outcome.{Answers};
 
 use crate::conversions::{Converter, HostConvs};
-use crate::functions::{Converters, HostFail, Refiners};
+use crate::functions::{Converters, Equated, HostFail, Refiners};
 use crate::names::{is_full, is_same};
-use hol_just::{Goal, Just, Step};
+use hol_just::{Goal, Step};
 use hol_model::{Fault, is_identifier};
 use hol_terms::Term;
 use std::alloc::Global;
@@ -132,12 +132,7 @@ impl Converters for Host {
           IsAnswerOfOne host.conversions.conversions.items (λ entry. string_bytes entry.name) (λ entry. MayAnswer (Converter.post entry.call) (λ t. t) equation_answered term answer) name;
     } };
 
-    fn convert(
-        &self,
-        alloc: Global,
-        name: &str,
-        term: &Term,
-    ) -> Option<Result<(Term, Just), HostFail>> {
+    fn convert(&self, alloc: Global, name: &str, term: &Term) -> Option<Equated> {
         self.conversions.convert(alloc, name, term)
     }
 }

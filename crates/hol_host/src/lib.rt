@@ -6,8 +6,10 @@ mod conversions;
 mod functions;
 mod host;
 mod names;
+mod table;
 
 pub use beside::Beside;
 pub use conversions::{Converter, HostConvs};
-pub use functions::{Converters, HostFail, NoHost, Refiners};
+pub use functions::{Converters, Equated, HostFail, NoHost, Refiners};
 pub use host::{Host, Refiner};
+pub use table::{Converts, Refines, Table, named};

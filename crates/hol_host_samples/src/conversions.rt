@@ -1,14 +1,14 @@
 // Conversions.
 
 use crate::forms::dest_binary;
-use hol_host::HostFail;
+use hol_host::{Equated, HostFail};
 use hol_just::{Just, Rule, step};
 use hol_model::Fault;
 use hol_terms::{Term, mk_eq};
 use std::alloc::Global;
 
 /// `a = b` becomes `b = a`. Else it fails.
-pub fn swap(alloc: Global, term: &Term) -> Result<(Term, Just), HostFail> {
+pub fn swap(alloc: Global, term: &Term) -> Equated {
     let Some(sides) = dest_binary(term, "=") else {
         return Err(HostFail::Failed);
     };

@@ -1,8 +1,7 @@
 // The functions of this layer by their names.
-ghost use Rattle.std.specs.Prelude.{◌≡◌, ◌↔◌, map, Contains, IsSome};
 
-use hol_host::{Converters, HostFail, Refiners};
-use hol_just::{Goal, Just, Step};
+use hol_host::{Converts, Equated, HostFail, Refines, Table};
+use hol_just::{Goal, Step};
 use hol_tactics_congruence::eq;
 use hol_tactics_meson::meson;
 use hol_tactics_rewrite::{asm_rewrite, beta, rewrite, unwind};
@@ -58,8 +57,7 @@ pub const CONVERSIONS: [(&str, Conversion); 2] = [
     ("unwind", Conversion::Unwind),
 ];
 
-impl Refiner {
-    // Its step of a goal.
+impl Refines for Refiner {
     fn refine(self, alloc: Global, goal: &Goal) -> Result<Step, HostFail> {
         match self {
             Refiner::Strip => strip(alloc, goal),
@@ -79,9 +77,8 @@ impl Refiner {
     }
 }
 
-impl Conversion {
-    // Its equation of a term.
-    fn convert(self, alloc: Global, term: &Term) -> Result<(Term, Just), HostFail> {
+impl Converts for Conversion {
+    fn convert(self, alloc: Global, term: &Term) -> Equated {
         match self {
             Conversion::Beta => beta(alloc, term),
             Conversion::Unwind => unwind(alloc, term),
@@ -89,51 +86,11 @@ impl Conversion {
     }
 }
 
-/// What stands under a name in a table.
-pub fn named<F: Copy>(table: &[(&'static str, F)], name: &str) -> Option<F>
-    ensures { IsSome result ↔ Contains (map (λ entry. entry.0.now) table.now) name.now }
-{
-    for entry in table {
-        if entry.0 == name {
-            return Some(entry.1);
-        }
-    }
-    None
-}
+/// The host of these refiners and conversions.
+pub type Tactics = Table<'static, Refiner, Conversion>;
 
 /// The refiners and conversions of this layer, under the names of `REFINERS` and `CONVERSIONS`.
-#[derive(Clone, Copy)]
-pub struct Tactics;
-
-impl Converters for Tactics {
-    ghost use Rattle.hol_tactics.specs.declared.host.TheConstants.{CONVERSIONS};
-
-    ghost conversions = { λ host. record {
-      names = map (λ entry. entry.0.now) CONVERSIONS;
-      converts = λ name term answer. Unit {0};
-    } };
-
-    fn convert(
-        &self,
-        alloc: Global,
-        name: &str,
-        term: &Term,
-    ) -> Option<Result<(Term, Just), HostFail>> {
-        let conversion = named(&CONVERSIONS, name)?;
-        Some(conversion.convert(alloc, term))
-    }
-}
-
-impl Refiners for Tactics {
-    ghost use Rattle.hol_tactics.specs.declared.host.TheConstants.{REFINERS};
-
-    ghost refiners = { λ host. record {
-      names = map (λ entry. entry.0.now) REFINERS;
-      refines = λ name goal answer. Unit {0};
-    } };
-
-    fn refine(&self, alloc: Global, name: &str, goal: &Goal) -> Option<Result<Step, HostFail>> {
-        let refiner = named(&REFINERS, name)?;
-        Some(refiner.refine(alloc, goal))
-    }
-}
+pub const TACTICS: Tactics = Table {
+    refiners: &REFINERS,
+    conversions: &CONVERSIONS,
+};

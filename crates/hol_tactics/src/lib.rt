@@ -5,4 +5,4 @@
 
 mod host;
 
-pub use host::{CONVERSIONS, Conversion, REFINERS, Refiner, Tactics, named};
+pub use host::{CONVERSIONS, Conversion, REFINERS, Refiner, TACTICS, Tactics};

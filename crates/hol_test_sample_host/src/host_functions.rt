@@ -1,5 +1,5 @@
 // Refiners and conversions with a step to find, to spoil, or to leave.
-use hol_host::HostFail;
+use hol_host::{Equated, HostFail};
 use hol_just::{Goal, Just, Rule, Step, lemma, named, splice, step, sub};
 use hol_model::Fault;
 use hol_terms::{Term, mk_eq};
@@ -188,27 +188,27 @@ fn around(alloc: Global, layer: &Just, just: Just) -> Result<Just, Fault> {
 }
 
 /// The term itself, by a theorem that is no equation of the two.
-pub(crate) fn wrong(alloc: Global, term: &Term) -> Result<(Term, Just), HostFail> {
+pub(crate) fn wrong(alloc: Global, term: &Term) -> Equated {
     Ok((term.copy(alloc)?, named(alloc, "TRUTH")?))
 }
 
 /// No equation of any term, for want of memory.
-pub(crate) fn starved_conv(_alloc: Global, _term: &Term) -> Result<(Term, Just), HostFail> {
+pub(crate) fn starved_conv(_alloc: Global, _term: &Term) -> Equated {
     Err(HostFail::Memory)
 }
 
 /// `T`, by the theorem that the formula equals itself.
-pub(crate) fn twisted(alloc: Global, term: &Term) -> Result<(Term, Just), HostFail> {
+pub(crate) fn twisted(alloc: Global, term: &Term) -> Equated {
     converted(reflexive(alloc, term))
 }
 
 /// `T`, by the assumption that the formula equals it.
-pub(crate) fn guess(alloc: Global, term: &Term) -> Result<(Term, Just), HostFail> {
+pub(crate) fn guess(alloc: Global, term: &Term) -> Equated {
     converted(supposed(alloc, term))
 }
 
 /// `\y:A. y` of `\x:A. x`, and no answer of a term that binds another name.
-pub(crate) fn renamed(alloc: Global, term: &Term) -> Result<(Term, Just), HostFail> {
+pub(crate) fn renamed(alloc: Global, term: &Term) -> Equated {
     match identity_renamed(alloc, term) {
         Ok(Some(equal)) => Ok(equal),
         Ok(None) => Err(HostFail::Failed),
@@ -239,7 +239,7 @@ fn is_named_x(variable: &Term) -> bool {
     }
 }
 
-fn converted(made: Result<(Term, Just), Fault>) -> Result<(Term, Just), HostFail> {
+fn converted(made: Result<(Term, Just), Fault>) -> Equated {
     match made {
         Ok(equal) => Ok(equal),
         Err(fault) => Err(HostFail::from(fault)),

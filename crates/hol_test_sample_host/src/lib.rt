@@ -5,7 +5,5 @@
 
 mod host_functions;
 mod samples;
-mod table;
 
-pub use samples::Samples;
-pub use table::named;
+pub use samples::{SAMPLES, Samples};

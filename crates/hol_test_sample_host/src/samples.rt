@@ -1,14 +1,12 @@
 // The host of tests.
-ghost use Rattle.std.specs.Prelude.{map};
 
 use crate::host_functions::{
     circular, deep, foreign, guess, mute, nameless, presuming, renamed, shapeless, shared, starved,
     starved_conv, stranger, twin, twisted, vast, without_lemma, wrong,
 };
-use crate::table::named;
-use hol_host::{Converters, HostFail, Refiners};
+use hol_host::{Converts, Equated, HostFail, Refines, Table};
 use hol_host_samples::{liar, liar2, peel, swap};
-use hol_just::{Goal, Just, Step};
+use hol_just::{Goal, Step};
 use hol_terms::Term;
 use std::alloc::Global;
 
@@ -75,7 +73,7 @@ pub const CONVERSIONS: [(&str, Conversion); 6] = [
     ("renamed", Conversion::Renamed),
 ];
 
-impl Refiner {
+impl Refines for Refiner {
     fn refine(self, alloc: Global, goal: &Goal) -> Result<Step, HostFail> {
         match self {
             Refiner::Peel => peel(alloc, goal),
@@ -98,8 +96,8 @@ impl Refiner {
     }
 }
 
-impl Conversion {
-    fn convert(self, alloc: Global, term: &Term) -> Result<(Term, Just), HostFail> {
+impl Converts for Conversion {
+    fn convert(self, alloc: Global, term: &Term) -> Equated {
         match self {
             Conversion::Swap => swap(alloc, term),
             Conversion::Wrong => wrong(alloc, term),
@@ -111,39 +109,11 @@ impl Conversion {
     }
 }
 
+/// The host of tests.
+pub type Samples = Table<'static, Refiner, Conversion>;
+
 /// The sample refiners and conversions, and those of tests, under the names of `REFINERS` and `CONVERSIONS`.
-#[derive(Clone, Copy)]
-pub struct Samples;
-
-impl Converters for Samples {
-    ghost use Rattle.hol_test_sample_host.specs.declared.samples.TheConstants.{CONVERSIONS};
-
-    ghost conversions = { λ host. record {
-      names = map (λ entry. entry.0.now) CONVERSIONS;
-      converts = λ name term answer. Unit {0};
-    } };
-
-    fn convert(
-        &self,
-        alloc: Global,
-        name: &str,
-        term: &Term,
-    ) -> Option<Result<(Term, Just), HostFail>> {
-        let conversion = named(&CONVERSIONS, name)?;
-        Some(conversion.convert(alloc, term))
-    }
-}
-
-impl Refiners for Samples {
-    ghost use Rattle.hol_test_sample_host.specs.declared.samples.TheConstants.{REFINERS};
-
-    ghost refiners = { λ host. record {
-      names = map (λ entry. entry.0.now) REFINERS;
-      refines = λ name goal answer. Unit {0};
-    } };
-
-    fn refine(&self, alloc: Global, name: &str, goal: &Goal) -> Option<Result<Step, HostFail>> {
-        let refiner = named(&REFINERS, name)?;
-        Some(refiner.refine(alloc, goal))
-    }
-}
+pub const SAMPLES: Samples = Table {
+    refiners: &REFINERS,
+    conversions: &CONVERSIONS,
+};

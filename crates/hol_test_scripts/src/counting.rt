@@ -1,95 +1,66 @@
 // A host that counts its calls.
-ghost use Rattle.std.specs.Prelude.{map};
 
 use crate::steps::{same, told, twice, unchanged};
-use hol_host::{Converters, HostFail, Refiners};
-use hol_just::{Goal, Just, Step};
+use hol_host::{Converts, Equated, HostFail, Refines};
+use hol_just::{Goal, Step};
 use hol_terms::Term;
-use hol_test_sample_host::named;
 use std::alloc::Global;
 use std::cell::Cell;
 
+/// A refiner, with how often the counted functions were called since it was told last.
 #[derive(Clone, Copy)]
-enum Refiner {
+pub(crate) enum Refiner<'a> {
     /// Every second call fails; the others leave the goal.
-    Counted,
-    /// Tells how often the counted functions were called since it told so last.
-    Told,
+    Counted(&'a Cell<u32>),
+    /// Tells the number of calls.
+    Told(&'a Cell<u32>),
     Twice,
 }
 
+/// A conversion, with that number. Every second call fails; the others leave the term.
 #[derive(Clone, Copy)]
-enum Conversion {
-    /// Every second call fails; the others leave the term.
-    Counted,
+pub(crate) struct Counted<'a> {
+    calls: &'a Cell<u32>,
 }
 
-const REFINERS: [(&str, Refiner); 3] = [
-    ("f", Refiner::Counted),
-    ("calls", Refiner::Told),
-    ("twice", Refiner::Twice),
-];
-
-const CONVERSIONS: [(&str, Conversion); 1] = [("f", Conversion::Counted)];
-
-/// The host, and how often its counted functions were called.
-#[derive(Drop)]
-pub(crate) struct Counting {
-    calls: Cell<u32>,
+/// The refiners, each under its name.
+pub(crate) fn refiners(calls: &Cell<u32>) -> [(&'static str, Refiner<'_>); 3] {
+    [
+        ("f", Refiner::Counted(calls)),
+        ("calls", Refiner::Told(calls)),
+        ("twice", Refiner::Twice),
+    ]
 }
 
-impl Counting {
-    pub(crate) fn new() -> Counting {
-        Counting {
-            calls: Cell::new(0u32),
+/// The conversions, each under its name.
+pub(crate) fn conversions(calls: &Cell<u32>) -> [(&'static str, Counted<'_>); 1] {
+    [("f", Counted { calls })]
+}
+
+// Counts a call; whether it is to be answered.
+fn answers(calls: &Cell<u32>) -> bool {
+    let before = calls.get();
+    calls.set(before.wrapping_add(1));
+    before % 2 == 0
+}
+
+impl<'a> Refines for Refiner<'a> {
+    fn refine(self, alloc: Global, goal: &Goal) -> Result<Step, HostFail> {
+        match self {
+            Refiner::Counted(calls) if answers(calls) => unchanged(alloc, goal),
+            Refiner::Counted(_) => Err(HostFail::Failed),
+            Refiner::Told(calls) => told(alloc, calls.replace(0), goal),
+            Refiner::Twice => twice(alloc, goal),
         }
     }
-
-    // Counts a call; whether it is to be answered.
-    fn answers(&self) -> bool {
-        let before = self.calls.get();
-        self.calls.set(before.wrapping_add(1));
-        before % 2 == 0
-    }
 }
 
-impl Converters for Counting {
-    ghost use Rattle.hol_test_scripts.specs.declared.counting.TheConstants.{CONVERSIONS};
-
-    ghost conversions = { λ host. record {
-      names = map (λ entry. entry.0.now) CONVERSIONS;
-      converts = λ name term answer. Unit {0};
-    } };
-
-    fn convert(
-        &self,
-        alloc: Global,
-        name: &str,
-        term: &Term,
-    ) -> Option<Result<(Term, Just), HostFail>> {
-        let Conversion::Counted = named(&CONVERSIONS, name)?;
-        if self.answers() {
-            Some(same(alloc, term))
+impl<'a> Converts for Counted<'a> {
+    fn convert(self, alloc: Global, term: &Term) -> Equated {
+        if answers(self.calls) {
+            same(alloc, term)
         } else {
-            Some(Err(HostFail::Failed))
-        }
-    }
-}
-
-impl Refiners for Counting {
-    ghost use Rattle.hol_test_scripts.specs.declared.counting.TheConstants.{REFINERS};
-
-    ghost refiners = { λ host. record {
-      names = map (λ entry. entry.0.now) REFINERS;
-      refines = λ name goal answer. Unit {0};
-    } };
-
-    fn refine(&self, alloc: Global, name: &str, goal: &Goal) -> Option<Result<Step, HostFail>> {
-        match named(&REFINERS, name)? {
-            Refiner::Counted if self.answers() => Some(unchanged(alloc, goal)),
-            Refiner::Counted => Some(Err(HostFail::Failed)),
-            Refiner::Told => Some(told(alloc, self.calls.replace(0), goal)),
-            Refiner::Twice => Some(twice(alloc, goal)),
+            Err(HostFail::Failed)
         }
     }
 }

@@ -4,7 +4,7 @@ use hol_journal::Recorder;
 use hol_model::Fault;
 use hol_script::run;
 use hol_test_sample_devices::Kept;
-use hol_test_sample_host::Samples;
+use hol_test_sample_host::SAMPLES;
 use std::alloc::Global;
 
 // A script of one theorem.
@@ -82,7 +82,7 @@ fn keeps_entries(alloc: Global, wants_log: bool) -> Result<bool, Fault> {
         &mut writer,
         &mut log,
         wants_log,
-        &Samples,
+        &SAMPLES,
     )?;
     Ok(ended.progress.manager.log_text(alloc, &[]).is_ok())
 }

@@ -1,13 +1,15 @@
 // Runs of scripts, and conversations, over devices.
 ghost use Rattle.std.specs.Prelude.{◌≡◌, false};
 
-use crate::counting::Counting;
+use crate::counting::{conversions, refiners};
 use hol_device_adapters::FromRead;
+use hol_host::Table;
 use hol_model::{Fault, Source};
 use hol_script::{Ended, Summary, converse, run};
 use hol_test_sample_devices::{Drips, Kept, Narrow};
-use hol_test_sample_host::Samples;
+use hol_test_sample_host::SAMPLES;
 use std::alloc::Global;
+use std::cell::Cell;
 
 /// Whether a script is run or answered as it comes, with a log or without one, how many bytes of it can be read, and how many its
 /// output and its log have room for.
@@ -83,9 +85,9 @@ pub(crate) fn run_source<R: Source>(alloc: Global, reader: &mut R, setting: Sett
     let mut log = Narrow::new(alloc, setting.log_room);
     let wants_log = setting.wants_log;
     let answer = if setting.is_conversation {
-        converse(alloc, reader, &mut writer, &mut log, wants_log, &Samples)
+        converse(alloc, reader, &mut writer, &mut log, wants_log, &SAMPLES)
     } else {
-        run(alloc, reader, &mut writer, &mut log, wants_log, &Samples)
+        run(alloc, reader, &mut writer, &mut log, wants_log, &SAMPLES)
     };
     Left {
         told: told_of(answer),
@@ -104,14 +106,14 @@ pub(crate) fn run_counting(alloc: Global, script: &[u8]) -> Result<Vec<u8>, Faul
     let mut reader = FromRead::new(script);
     let mut writer = Kept::new(alloc);
     let mut no_log = Kept::new(alloc);
-    let ended = run(
-        alloc,
-        &mut reader,
-        &mut writer,
-        &mut no_log,
-        false,
-        &Counting::new(),
-    );
+    let calls = Cell::new(0u32);
+    let refiners = refiners(&calls);
+    let conversions = conversions(&calls);
+    let host = Table {
+        refiners: &refiners,
+        conversions: &conversions,
+    };
+    let ended = run(alloc, &mut reader, &mut writer, &mut no_log, false, &host);
     match ended {
         Ok(_) => Ok(writer.bytes),
         Err(fault) => Err(fault),

@@ -1,6 +1,6 @@
 // What the host's functions answer.
-use hol_host::HostFail;
-use hol_just::{Goal, Just, Rule, Step, step, sub};
+use hol_host::{Equated, HostFail};
+use hol_just::{Goal, Rule, Step, step, sub};
 use hol_terms::Term;
 use hol_types::Ty;
 use std::alloc::Global;
@@ -14,7 +14,7 @@ pub(crate) fn unchanged(alloc: Global, goal: &Goal) -> Result<Step, HostFail> {
 }
 
 /// The term itself, by REFL.
-pub(crate) fn same(alloc: Global, term: &Term) -> Result<(Term, Just), HostFail> {
+pub(crate) fn same(alloc: Global, term: &Term) -> Equated {
     let just = step(alloc, Rule::Refl(term.copy(alloc)?), &[])?;
     Ok((term.copy(alloc)?, just))
 }

@@ -2,7 +2,7 @@
 use hol_explain::{Origin, Refused, Script, explain, explain_refusal, write_records};
 use hol_model::Fault;
 use hol_test_sample_devices::Kept;
-use hol_test_sample_host::Samples;
+use hol_test_sample_host::SAMPLES;
 use serde_json::Value;
 use std::alloc::Global;
 
@@ -50,7 +50,7 @@ pub(crate) fn messages(
         host_names: &names,
     };
     let mut writer = Kept::new(alloc);
-    explain(alloc, &script, &Samples, &mut writer)?;
+    explain(alloc, &script, &SAMPLES, &mut writer)?;
     Ok(writer.bytes)
 }
 
@@ -62,7 +62,7 @@ pub(crate) fn message_without_memory(alloc: Global, text: &[u8]) -> Result<Vec<u
         host_names: &[],
     };
     let refused = Refused::plain(Fault::Memory);
-    let message = explain_refusal(alloc, &script, &Samples, &refused)?;
+    let message = explain_refusal(alloc, &script, &SAMPLES, &refused)?;
     let mut told = Vec::new(alloc);
     told.extend_from_slice(message.as_bytes())?;
     Ok(told)
@@ -77,7 +77,7 @@ pub(crate) fn records(alloc: Global, text: &[u8]) -> Result<Vec<u8>, Fault> {
         host_names: &names,
     };
     let mut writer = Kept::new(alloc);
-    write_records(alloc, &script, &Samples, &mut writer)?;
+    write_records(alloc, &script, &SAMPLES, &mut writer)?;
     Ok(writer.bytes)
 }
 

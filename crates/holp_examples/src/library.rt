@@ -5,7 +5,7 @@ use hol_check::check;
 use hol_device_adapters::FromRead;
 use hol_model::Fault;
 use hol_script::run;
-use hol_tactics::Tactics;
+use hol_tactics::TACTICS;
 use hol_test_sample_devices::Kept;
 use std::alloc::Global;
 use std::fs;
@@ -29,7 +29,7 @@ fn run_text(alloc: Global, text: &str, wants_log: bool) -> Result<Written, Fault
         &mut writer,
         &mut log,
         wants_log,
-        &Tactics,
+        &TACTICS,
     )?;
     let _progress = ended.whole()?;
     Ok(Written {

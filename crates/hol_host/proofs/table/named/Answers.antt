@@ -1,6 +1,6 @@
 use Rattle.std.proofs.Common.{rules, ◌≡◌, below_more, refl, sym, ◌∙◌}
 use Rattle.hol_host.proofs.Listed.{map-at}
-use Rattle.hol_test_sample_host.proofs.table.named.Goals as goal
+use Rattle.hol_host.proofs.table.named.Goals as goal
 
 pub returns-then-eq : goal.returns-then-eq
 returns-then-eq g c =
