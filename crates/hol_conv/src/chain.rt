@@ -18,7 +18,7 @@ ghost use Rattle.hol_conv.specs.Chains as chains;
 ghost use Rattle.hol_conv.specs.Chains.{proved_by, LeadUpTo, IsChain, BeginsAt, IsChainFrom, Settles, Reflects, Finishes, Tries, IsExtended, Links, LinksMade};
 
 use hol_conv_rules::{
-    Converted, as_answer, only_changed, refl, right_side, theorem, trans_known, unchanged,
+    Converted, as_answer, only_changed, refl_known, right_side, theorem, trans_known, unchanged,
 };
 use hol_journal::Rec;
 use hol_model::Fault;
@@ -167,7 +167,7 @@ fn settled(library: &mut Library, alloc: Global, chain: Chain) -> Result<Chain, 
         current,
         ..
     } = chain;
-    let same = refl(library, alloc, &current)?;
+    let same = refl_known(library, alloc, &current)?;
     match theorems.push(same) {
         Ok(()) => Ok(Chain {
             theorems,

@@ -11,7 +11,7 @@ ghost use Rattle.hol_conv.specs.Leaves.{IsLeaf};
 
 use crate::leaves::Leaves;
 use crate::preparing::prepared_for;
-use hol_conv_rules::{NamedRules, beta_conv, host_conv, prepared_rewr_conv, refl, rewr_conv};
+use hol_conv_rules::{NamedRules, beta_conv, host_conv, prepared_rewr_conv, refl_known, rewr_conv};
 use hol_host::Converters;
 use hol_journal::Rec;
 use hol_model::Fault;
@@ -90,7 +90,7 @@ fn one_step<H: Converters>(
     ensures makes { Makes library.old library.new result }
 {
     match leaf {
-        Conv::All => refl(library, alloc, t),
+        Conv::All => refl_known(library, alloc, t),
         Conv::No => Err(Fault::ConvFails),
         Conv::Beta => beta_conv(library, alloc, t),
         Conv::Rewr(name) => rewritten(library, alloc, prepared, name, t),

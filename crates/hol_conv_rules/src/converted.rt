@@ -14,7 +14,9 @@ ghost use Rattle.hol_theorem_library.specs.declared.library.Library as library;
 ghost use Rattle.hol_conv_rules.specs.Makes.{Makes, Joins, IsRightSide};
 ghost use Rattle.hol_conv_rules.specs.Converted.{same_theorem, theorem_of, answered, changed_by, IsAnswerOf, IsHeldIn, MakesAnswer, from_refl, to_refl};
 
-use crate::joins::{abs, ap_term, ap_thm, if_changed, mk_comb, refl, right_side, trans_known};
+use crate::joins::{
+    abs, ap_term, ap_thm, if_changed, mk_comb, refl_known, right_side, trans_known,
+};
 use hol_journal::Rec;
 use hol_model::{Fault, TERM_HEIGHT_LIMIT, TERM_NODES_LIMIT, TYPE_NODES_LIMIT};
 use hol_terms::Term;
@@ -77,7 +79,7 @@ pub fn theorem(
     ensures makes { Makes library.old library.new result }
 {
     match answer {
-        Ok(Converted::Same) => refl(library, alloc, t),
+        Ok(Converted::Same) => refl_known(library, alloc, t),
         Ok(Converted::Changed(made)) => Ok(made),
         Err(fault) => Err(fault),
     }
@@ -206,24 +208,26 @@ pub fn of_body(
 // TRANS of what REFL proves and a theorem.
 fn from_same(library: &mut Library, alloc: Global, t: &Term, next: &Rec) -> Result<Rec, Fault>
     requires library { IsLibrary library.old }
+    requires known { is_known library.old.recorder.theory t.now ≡ true }
     requires next { IsMade library.old.recorder next.now }
     requires equation { IsEquationOf t.now next.now.theorem }
     ensures makes { Makes library.old library.new result }
     ensures joins { Joins (from_refl library.old.recorder.theory t.now next.now.theorem) (theorem_in result) }
 {
-    let same = refl(library, alloc, t)?;
+    let same = refl_known(library, alloc, t)?;
     trans_known(library, alloc, &same, next)
 }
 
 // TRANS of a theorem and what REFL proves.
 fn to_same(library: &mut Library, alloc: Global, first: &Rec, right: &Term) -> Result<Rec, Fault>
     requires library { IsLibrary library.old }
+    requires known { is_known library.old.recorder.theory right.now ≡ true }
     requires first { IsMade library.old.recorder first.now }
     requires side { IsRightSide first.now.theorem right.now }
     ensures makes { Makes library.old library.new result }
     ensures joins { Joins (to_refl library.old.recorder.theory first.now.theorem right.now) (theorem_in result) }
 {
-    let same = refl(library, alloc, right)?;
+    let same = refl_known(library, alloc, right)?;
     trans_known(library, alloc, first, &same)
 }
 

@@ -19,13 +19,14 @@ use hol_terms::Term;
 use hol_theorem_library::Library;
 use std::alloc::Global;
 
-/// REFL: `|- t = t`, as ALL_CONV. Refused as the kernel's rule.
-pub fn refl(library: &mut Library, alloc: Global, term: &Term) -> Result<Rec, Fault>
+/// REFL: `|- t = t`, as ALL_CONV, of a term that the library's theory knows, which is not walked for it. Refused as the kernel's rule.
+pub fn refl_known(library: &mut Library, alloc: Global, term: &Term) -> Result<Rec, Fault>
     requires library { IsLibrary library.old }
+    requires known { is_known library.old.recorder.theory term.now ≡ true }
     ensures makes { Makes library.old library.new result }
     ensures joins { Joins (refl_outcome library.old.recorder.theory term.now) (theorem_in result) }
 {
-    library.recorder.refl(alloc, term)
+    library.recorder.refl_known(alloc, term)
 }
 
 /// TRANS: from `a = b` and `b = c`, `a = c`, whose middle terms are known to meet, so that they are not compared. Refused as the
@@ -72,11 +73,12 @@ pub fn ap_term(
     argument: &Rec,
 ) -> Result<Rec, Fault>
     requires library { IsLibrary library.old }
+    requires known { is_known library.old.recorder.theory function.now ≡ true }
     requires argument { IsMade library.old.recorder argument.now }
     ensures makes { Makes library.old library.new result }
     ensures joins { Joins (of_argument library.old.recorder.theory function.now (Ok argument.now.theorem)) (theorem_in result) }
 {
-    let same = refl(library, alloc, function)?;
+    let same = refl_known(library, alloc, function)?;
     mk_comb(library, alloc, &same, argument)
 }
 
@@ -89,10 +91,11 @@ pub fn ap_thm(
 ) -> Result<Rec, Fault>
     requires library { IsLibrary library.old }
     requires function { IsMade library.old.recorder function.now }
+    requires known { is_known library.old.recorder.theory argument.now ≡ true }
     ensures makes { Makes library.old library.new result }
     ensures joins { Joins (of_function library.old.recorder.theory argument.now (Ok function.now.theorem)) (theorem_in result) }
 {
-    let same = refl(library, alloc, argument)?;
+    let same = refl_known(library, alloc, argument)?;
     mk_comb(library, alloc, function, &same)
 }
 

@@ -14,5 +14,5 @@ pub use converted::{
     then, theorem, unchanged,
 };
 pub use hosts::host_conv;
-pub use joins::{refl, right_side, trans_known};
+pub use joins::{refl_known, right_side, trans_known};
 pub use prepared::{NamedRules, prepared_rewr_conv, rewr_conv, rules_named};

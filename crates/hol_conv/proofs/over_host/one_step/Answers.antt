@@ -6,7 +6,7 @@ use Rattle.hol_conv.proofs.over_host.one_step.Goals as goal
 pub returns-in-All-clause-converts : goal.returns-in-All-clause-converts
 returns-in-All-clause-converts g c depth left =
     let library = c.args.library.now in
-    rw c.in-All.is (converts_all library.recorder.theory (store_in library) (g.H.Converters.conversions c.args.hosts.now) c.args.t.now (theorem_in c.refl.result) c.refl.ensures.joins depth left)
+    rw c.in-All.is (converts_all library.recorder.theory (store_in library) (g.H.Converters.conversions c.args.hosts.now) c.args.t.now (theorem_in c.refl_known.result) c.refl_known.ensures.joins depth left)
 
 pub returns-in-No-clause-converts : goal.returns-in-No-clause-converts
 returns-in-No-clause-converts g c depth left =
