@@ -25,6 +25,11 @@ drawn : (whole tree : Justification) (result : Result Just Fault) → depth tree
 drawn whole tree (Ok made) low same ok err = ok ∙ same
 drawn whole tree (Err fault) low same ok err = refused-low tree fault low (subst (λ (t : Justification). IsRefused t fault) same err)
 
+-- what a call makes, or that there is no memory
+pub made : (tree : Justification) (result : Result Just Fault) → IfOk result (λ just. tree_of just ≡ tree) → IfErr result (λ fault. fault ≡ Memory) → Makes result tree
+made tree (Ok just) ok err = ok
+made tree (Err fault) ok err = err
+
 low-suc : (n : ℕ) → n ≤ 10 → n + 1 ≤ 11
 low-suc n low = omega arith
 

@@ -1,6 +1,7 @@
 pub mod Depths
 pub mod Goals
 pub mod Among
+pub mod Equations
 pub mod Fitting
 pub mod Instances
 pub mod TakenNames

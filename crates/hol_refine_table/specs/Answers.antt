@@ -50,6 +50,11 @@ abbrev pub Makes : Result Just Fault → Justification → Type 0
 Makes (Ok made) tree = tree_of made ≡ tree
 Makes (Err fault) tree = fault ≡ Memory
 
+-- the same of two justifications
+abbrev pub MakesBoth : Result (Just × Just) Fault → Justification → Justification → Type 0
+MakesBoth (Ok made) first second = (tree_of made.0 ≡ first) × (tree_of made.1 ≡ second)
+MakesBoth (Err fault) first second = fault ≡ Memory
+
 -- far from the limit on depth
 abbrev pub is_shallow : Justification → Bool
 is_shallow justification = nat_le (depth justification) 10

@@ -18,11 +18,11 @@ ghost use Rattle.hol_refine_table.specs.Answers.{step_in, AnswersStep, AnswersRo
 ghost use Rattle.hol_refine_table.specs.Rows as stated;
 
 use crate::assumed::{are_assumed, is_assumed};
-use crate::making::{by_first, by_second, by_two, to_one, to_target, to_targets, with_theorem};
+use crate::cited::Cited;
+use crate::making::{from_one, from_two, stored_theorem, subgoal, to_one, to_target, to_targets};
 use crate::parts::equation_sides;
 use hol_alpha::aconv;
 use hol_just::{Goal, Just, Rule, Step};
-use hol_kernel::Thm;
 use hol_model::Fault;
 use hol_terms::Term;
 use hol_types::Ty;
@@ -53,26 +53,26 @@ fn implied(alloc: Global, name: &str, conclusion: &Term, goal: &Goal) -> Result<
     ensures { type_of conclusion.now ≡ Some bool_type → type_of goal.now.concl ≡ Some bool_type → AnswersStep (stated.implied (goal_of goal.now) name.now conclusion.now) (step_in result) }
 {
     let implication = implies(alloc, conclusion, &goal.concl)?;
-    let just = with_theorem(alloc, Rule::Mp, name)?;
+    let just = from_two(
+        alloc,
+        Rule::Mp,
+        subgoal(alloc, 0),
+        stored_theorem(alloc, name),
+    )?;
     to_target(alloc, goal, &implication, just)
 }
 
 /// `q` becomes `p ==> q`, `p` the theorem's conclusion.
-pub(crate) fn mp_tac(
-    alloc: Global,
-    name: &str,
-    theorem: Option<&Thm>,
-    goal: &Goal,
-) -> Result<Step, Fault>
+pub(crate) fn mp_tac(alloc: Global, cited: Cited<'_>, goal: &Goal) -> Result<Step, Fault>
     requires { type_of goal.now.concl ≡ Some bool_type }
-    ensures { AnswersNamedRow (refiners.mp_tac name.now) name.now (option_map (λ t. t.now) theorem.entry) (goal_of goal.now) (step_in result) }
+    ensures { AnswersNamedRow (refiners.mp_tac cited.entry.name.now) cited.entry.name.now (option_map (λ t. t.now) cited.entry.theorem) (goal_of goal.now) (step_in result) }
 {
-    match theorem {
+    match cited.theorem {
         Some(theorem) => {
             if !are_assumed(theorem.hyps(), goal) {
                 return Err(Fault::RefineFails);
             }
-            implied(alloc, name, theorem.concl(), goal)
+            implied(alloc, cited.name, theorem.concl(), goal)
         }
         None => Err(Fault::UnknownName),
     }
@@ -97,7 +97,7 @@ fn undischarged(alloc: Global, p: &Term, goal: &Goal) -> Result<Step, Fault>
     ensures { type_of p.now ≡ Some bool_type → type_of goal.now.concl ≡ Some bool_type → AnswersStep (stated.undischarged (goal_of goal.now) p.now) (step_in result) }
 {
     let implication = implies(alloc, p, &goal.concl)?;
-    let just = by_first(alloc, Rule::Undisch)?;
+    let just = from_one(alloc, Rule::Undisch, subgoal(alloc, 0))?;
     let asms = without(alloc, p, &goal.asms)?;
     let subgoal = Goal {
         asms,
@@ -122,9 +122,12 @@ pub(crate) fn undisch_tac(alloc: Global, p: &Term, goal: &Goal) -> Result<Step, 
 pub(crate) fn by_both_ways(alloc: Global) -> Result<Just, Fault>
     ensures { Makes result stated.by_both_ways }
 {
-    let second = by_second(alloc, Rule::Undisch)?;
-    let first = by_first(alloc, Rule::Undisch)?;
-    by_two(alloc, Rule::DeductAntisym, second, first)
+    from_two(
+        alloc,
+        Rule::DeductAntisym,
+        from_one(alloc, Rule::Undisch, subgoal(alloc, 1)),
+        from_one(alloc, Rule::Undisch, subgoal(alloc, 0)),
+    )
 }
 
 // The two implications as targets.

@@ -3,6 +3,7 @@
 #![tactic(auto)]
 
 mod assumed;
+mod cited;
 mod implications;
 mod making;
 mod names;

@@ -4,12 +4,13 @@ ghost use Rattle.hol_model.specs.declared.fault.Fault.TheVariants.{Memory};
 ghost use Rattle.hol_model.specs.Derived.DerivedRules.{Conclusion, named, IsConclusion};
 ghost use Rattle.hol_model.specs.Goals.Justifications.{Justification, by_rule, no_parts};
 ghost use Rattle.hol_model.specs.Goals.Justifications as trees;
+ghost use Rattle.hol_model.specs.Derived.InferenceRules.{rule_disj_cases};
 ghost use Rattle.hol_model.specs.Refining.Refiners as refiners;
 ghost use Rattle.hol_model.specs.Refining.Refiners.{StatedGoal, from_assumptions, one_part, two_parts, three_parts, leaves, from_first, from_second};
 ghost use Rattle.hol_just.specs.Rules.{rule_of};
 ghost use Rattle.hol_just.specs.Steps.{tree_of, goal_of};
-ghost use Rattle.hol_refine_table.specs.Answers.{step_in, IsGoal, AnswersStep, Makes, MakesOver, is_shallow};
-ghost use Rattle.hol_refine_table.specs.Rows.{two_targets, two_cases};
+ghost use Rattle.hol_refine_table.specs.Answers.{step_in, IsGoal, AnswersStep, Makes, MakesBoth, MakesOver, is_shallow};
+ghost use Rattle.hol_refine_table.specs.Rows.{two_targets};
 
 use hol_just::{Goal, Just, Rule, Step, named, step, sub};
 use hol_model::Fault;
@@ -54,48 +55,104 @@ pub(crate) fn by_three(
     step(alloc, rule, &parts)
 }
 
-// Copies of the terms.
-fn copies(alloc: Global, terms: &[Term]) -> Result<Vec<Term>, Fault>
-    ensures ok { IfOk result (λ all. all.items ≡ terms.now) }
-    ensures err { IfErr result (λ fault. fault ≡ Memory) }
+// Both, where both were made.
+fn both(first: Result<Just, Fault>, second: Result<Just, Fault>) -> Result<(Just, Just), Fault>
+    ensures { (t u : Justification) → Makes first t → Makes second u → MakesBoth result t u }
 {
-    let mut all = Vec::new(alloc);
-    for term in terms {
-        all.push(term.copy(alloc)?)?;
+    match first {
+        Ok(first) => match second {
+            Ok(second) => Ok((first, second)),
+            Err(fault) => {
+                drop(first);
+                Err(fault)
+            }
+        },
+        Err(fault) => {
+            drop(second);
+            Err(fault)
+        }
     }
-    Ok(all)
+}
+
+/// What a rule draws from a premise, where that was made.
+pub(crate) fn from_one(alloc: Global, rule: Rule, part: Result<Just, Fault>) -> Result<Just, Fault>
+    ensures { (t : Justification) → Makes part t → is_shallow t ≡ true → Makes result (by_rule (rule_of rule) (one_part t)) }
+{
+    match part {
+        Ok(part) => by_one(alloc, rule, part),
+        Err(fault) => {
+            drop(rule);
+            Err(fault)
+        }
+    }
+}
+
+/// What a rule draws from two premises, where both were made.
+pub(crate) fn from_two(
+    alloc: Global,
+    rule: Rule,
+    first: Result<Just, Fault>,
+    second: Result<Just, Fault>,
+) -> Result<Just, Fault>
+    ensures { (t u : Justification) → Makes first t → Makes second u → is_shallow t ≡ true → is_shallow u ≡ true → Makes result (by_rule (rule_of rule) (two_parts t u)) }
+{
+    match both(first, second) {
+        Ok((first, second)) => by_two(alloc, rule, first, second),
+        Err(fault) => {
+            drop(rule);
+            Err(fault)
+        }
+    }
+}
+
+/// The subgoal of this number.
+pub(crate) fn subgoal(alloc: Global, number: usize) -> Result<Just, Fault>
+    ensures { Makes result (trees.sub number) }
+{
+    sub(alloc, number)
+}
+
+/// The stored theorem of this name.
+pub(crate) fn stored_theorem(alloc: Global, name: &str) -> Result<Just, Fault>
+    ensures { Makes result (trees.named name.now) }
+{
+    named(alloc, name)
+}
+
+/// What DISJ_CASES draws from a stored theorem and both subgoals.
+pub(crate) fn by_disj_cases(alloc: Global, name: &str) -> Result<Just, Fault>
+    ensures { Makes result (by_rule rule_disj_cases (three_parts (trees.named name.now) from_first from_second)) }
+{
+    let theorem = named(alloc, name)?;
+    let first = sub(alloc, 0)?;
+    let second = sub(alloc, 1)?;
+    by_three(alloc, Rule::DisjCases, theorem, first, second)
 }
 
 /// The goal's assumptions, with another target.
-#[tactic(auto, using(crate::proofs::Goals::with_target))]
-pub(crate) fn toward(alloc: Global, goal: &Goal, target: Term) -> Result<Goal, Fault>
-    ensures ok { IfOk result (λ made. (c : Conclusion) → IsConclusion c target → IsGoal (from_assumptions (goal_of goal.now).assumptions [] c) (goal_of made)) }
+#[tactic(auto, using(crate::proofs::Goals::toward_made))]
+fn toward(alloc: Global, goal: &Goal, target: &Term) -> Result<Goal, Fault>
+    ensures ok { IfOk result (λ made. (c : Conclusion) → IsConclusion c target.now → IsGoal (from_assumptions (goal_of goal.now).assumptions [] c) (goal_of made)) }
     ensures err { IfErr result (λ fault. fault ≡ Memory) }
 {
-    Ok(Goal {
-        asms: copies(alloc, &goal.asms)?,
-        concl: target,
-    })
+    goal.with_concl(alloc, target)
 }
 
 /// The goal's assumptions and one more behind them, with this target.
-#[tactic(auto, using(crate::proofs::Goals::with_assumption))]
+#[tactic(auto, using(crate::proofs::Goals::assuming_made))]
 pub(crate) fn assuming(
     alloc: Global,
     goal: &Goal,
-    added: Term,
+    added: &Term,
     target: &Term,
 ) -> Result<Goal, Fault>
-    ensures ok { IfOk result (λ made. (c d : Conclusion) → IsConclusion c added → IsConclusion d target.now
+    ensures ok { IfOk result (λ made. (c d : Conclusion) → IsConclusion c added.now → IsConclusion d target.now
         → IsGoal (from_assumptions (goal_of goal.now).assumptions (c ∷ []) d) (goal_of made)) }
     ensures err { IfErr result (λ fault. fault ≡ Memory) }
 {
-    let mut asms = copies(alloc, &goal.asms)?;
-    asms.push(added)?;
-    Ok(Goal {
-        asms,
-        concl: target.copy(alloc)?,
-    })
+    let mut subgoal = goal.with_concl(alloc, target)?;
+    subgoal.asms.push(added.copy(alloc)?)?;
+    Ok(subgoal)
 }
 
 /// A step that closes the goal. Refused: Memory.
@@ -127,59 +184,6 @@ pub(crate) fn to_two(alloc: Global, first: Goal, second: Goal, just: Just) -> Re
     Ok(Step { goals, just })
 }
 
-/// What a rule draws from the first subgoal.
-pub(crate) fn by_first(alloc: Global, rule: Rule) -> Result<Just, Fault>
-    ensures { Makes result (by_rule (rule_of rule) (one_part from_first)) }
-{
-    let first = sub(alloc, 0)?;
-    by_one(alloc, rule, first)
-}
-
-/// What a rule draws from the second subgoal.
-pub(crate) fn by_second(alloc: Global, rule: Rule) -> Result<Just, Fault>
-    ensures { Makes result (by_rule (rule_of rule) (one_part from_second)) }
-{
-    let second = sub(alloc, 1)?;
-    by_one(alloc, rule, second)
-}
-
-/// What a rule draws from both subgoals.
-pub(crate) fn by_both(alloc: Global, rule: Rule) -> Result<Just, Fault>
-    ensures { Makes result (by_rule (rule_of rule) (two_parts from_first from_second)) }
-{
-    let first = sub(alloc, 0)?;
-    let second = sub(alloc, 1)?;
-    by_two(alloc, rule, first, second)
-}
-
-/// What a rule draws from a stored theorem and the first subgoal.
-pub(crate) fn by_theorem(alloc: Global, rule: Rule, name: &str) -> Result<Just, Fault>
-    ensures { Makes result (by_rule (rule_of rule) (two_parts (trees.named name.now) from_first)) }
-{
-    let theorem = named(alloc, name)?;
-    let first = sub(alloc, 0)?;
-    by_two(alloc, rule, theorem, first)
-}
-
-/// What a rule draws from the first subgoal and a stored theorem.
-pub(crate) fn with_theorem(alloc: Global, rule: Rule, name: &str) -> Result<Just, Fault>
-    ensures { Makes result (by_rule (rule_of rule) (two_parts from_first (trees.named name.now))) }
-{
-    let first = sub(alloc, 0)?;
-    let theorem = named(alloc, name)?;
-    by_two(alloc, rule, first, theorem)
-}
-
-/// What a rule draws from a stored theorem and both subgoals.
-pub(crate) fn by_cases(alloc: Global, rule: Rule, name: &str) -> Result<Just, Fault>
-    ensures { Makes result (by_rule (rule_of rule) (three_parts (trees.named name.now) from_first from_second)) }
-{
-    let theorem = named(alloc, name)?;
-    let first = sub(alloc, 0)?;
-    let second = sub(alloc, 1)?;
-    by_three(alloc, rule, theorem, first, second)
-}
-
 /// A step by a rule without premises.
 pub(crate) fn by_itself(alloc: Global, rule: Rule) -> Result<Step, Fault>
     ensures { AnswersStep (leaves [] (by_rule (rule_of rule) no_parts)) (step_in result) }
@@ -188,13 +192,24 @@ pub(crate) fn by_itself(alloc: Global, rule: Rule) -> Result<Step, Fault>
     closed(alloc, just)
 }
 
+/// A step to a subgoal with a target that is as stated.
+pub(crate) fn to_stated(
+    alloc: Global,
+    goal: &Goal,
+    target: &Term,
+    just: Just,
+) -> Result<Step, Fault>
+    ensures { (c : Conclusion) (t : Justification) → IsConclusion c target.now → tree_of just ≡ t → AnswersStep (leaves (refiners.toward (goal_of goal.now) c ∷ []) t) (step_in result) }
+{
+    let subgoal = toward(alloc, goal, target)?;
+    to_one(alloc, subgoal, just)
+}
+
 /// A step to a subgoal with this target. Refused: Memory.
 pub fn to_target(alloc: Global, goal: &Goal, target: &Term, just: Just) -> Result<Step, Fault>
     ensures { (t : Justification) → tree_of just ≡ t → AnswersStep (leaves (refiners.toward (goal_of goal.now) (named target.now) ∷ []) t) (step_in result) }
 {
-    let target = target.copy(alloc)?;
-    let subgoal = toward(alloc, goal, target)?;
-    to_one(alloc, subgoal, just)
+    to_stated(alloc, goal, target, just)
 }
 
 /// A step to subgoals with these targets.
@@ -207,14 +222,12 @@ pub(crate) fn to_targets(
 ) -> Result<Step, Fault>
     ensures { (t : Justification) → tree_of just ≡ t → AnswersStep (leaves (two_targets (goal_of goal.now) left.now right.now) t) (step_in result) }
 {
-    let left = left.copy(alloc)?;
-    let right = right.copy(alloc)?;
     let first = toward(alloc, goal, left)?;
     let second = toward(alloc, goal, right)?;
     to_two(alloc, first, second, just)
 }
 
-/// A step to a subgoal with one more assumption and this target.
+/// A step to a subgoal with this target, and with one more assumption that is as stated.
 pub(crate) fn to_assuming(
     alloc: Global,
     goal: &Goal,
@@ -222,48 +235,9 @@ pub(crate) fn to_assuming(
     target: &Term,
     just: Just,
 ) -> Result<Step, Fault>
-    ensures { (t : Justification) → tree_of just ≡ t → AnswersStep (leaves
-        (from_assumptions (goal_of goal.now).assumptions (named added.now ∷ []) (named target.now) ∷ []) t) (step_in result) }
+    ensures { (c : Conclusion) (t : Justification) → IsConclusion c added.now → tree_of just ≡ t → AnswersStep (leaves
+        (from_assumptions (goal_of goal.now).assumptions (c ∷ []) (named target.now) ∷ []) t) (step_in result) }
 {
-    let added = added.copy(alloc)?;
     let subgoal = assuming(alloc, goal, added, target)?;
-    to_one(alloc, subgoal, just)
-}
-
-/// A step to two subgoals, each with one more assumption.
-pub(crate) fn to_cases(
-    alloc: Global,
-    goal: &Goal,
-    left: &Term,
-    right: &Term,
-    just: Just,
-) -> Result<Step, Fault>
-    ensures { (t : Justification) → tree_of just ≡ t → AnswersStep (leaves (two_cases (goal_of goal.now) left.now right.now) t) (step_in result) }
-{
-    let left = left.copy(alloc)?;
-    let right = right.copy(alloc)?;
-    let first = assuming(alloc, goal, left, &goal.concl)?;
-    let second = assuming(alloc, goal, right, &goal.concl)?;
-    to_two(alloc, first, second, just)
-}
-
-/// A step to the goal with one more assumption.
-pub(crate) fn to_assuming_stated(
-    alloc: Global,
-    goal: &Goal,
-    added: Term,
-    just: Just,
-) -> Result<Step, Fault>
-    ensures { (c : Conclusion) (t : Justification) → IsConclusion c added → tree_of just ≡ t → AnswersStep (leaves (refiners.assuming (goal_of goal.now) c ∷ []) t) (step_in result) }
-{
-    let subgoal = assuming(alloc, goal, added, &goal.concl)?;
-    to_one(alloc, subgoal, just)
-}
-
-/// A step to a subgoal with this target.
-pub(crate) fn to_stated(alloc: Global, goal: &Goal, target: Term, just: Just) -> Result<Step, Fault>
-    ensures { (c : Conclusion) (t : Justification) → IsConclusion c target → tree_of just ≡ t → AnswersStep (leaves (refiners.toward (goal_of goal.now) c ∷ []) t) (step_in result) }
-{
-    let subgoal = toward(alloc, goal, target)?;
     to_one(alloc, subgoal, just)
 }

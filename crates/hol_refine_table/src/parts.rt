@@ -36,25 +36,11 @@ pub(crate) fn connected_sides<'a>(term: &'a Term, name: &str) -> Option<Sides<'a
 }
 
 /// The sides of an equation.
+#[tactic(auto, using(crate::proofs::Equations::connected))]
 pub(crate) fn equation_sides(term: &Term) -> Option<Sides<'_>>
     ensures { option_map (λ sides. (sides.left.now, sides.right.now)) result ≡ dest_equation term.now }
 {
-    match term.parts() {
-        Parts::Combination(applied, right) => match applied.parts() {
-            Parts::Combination(connective, left) => match connective.parts() {
-                Parts::Constant(found, _) => {
-                    if found == "=" {
-                        Some(Sides { left, right })
-                    } else {
-                        None
-                    }
-                }
-                _ => None,
-            },
-            _ => None,
-        },
-        _ => None,
-    }
+    connected_sides(term, "=")
 }
 
 /// The formula under a negation.

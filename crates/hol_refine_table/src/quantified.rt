@@ -55,43 +55,31 @@ pub(crate) fn variable_of(alloc: Global, name: &str, ty: &Ty) -> Result<Term, Fa
 }
 
 /// The body with a term for the variable.
-pub(crate) fn instance(
-    alloc: Global,
-    name: &str,
-    ty: &Ty,
-    body: &Term,
-    argument: &Term,
-) -> Result<Term, Fault>
-    requires named { is_identifier name.now ≡ true }
-    requires typed { type_of argument.now ≡ Some ty.now }
-    ensures { AnswersInstance result (body_with (abstracted name.now ty.now body.now) argument.now) }
+pub(crate) fn instance(alloc: Global, parts: Quantified<'_>, argument: &Term) -> Result<Term, Fault>
+    requires named { is_identifier parts.name.now ≡ true }
+    requires typed { type_of argument.now ≡ Some parts.ty.now }
+    ensures { AnswersInstance result (body_with (abstracted parts.entry.name.now parts.entry.ty.now parts.entry.body.now) argument.now) }
 {
     let new = argument.copy(alloc)?;
-    let old = variable_of(alloc, name, ty)?;
-    let _body_type = body.ty();
-    let made = vsubst(alloc, &[(new, old)], body)?;
+    let old = variable_of(alloc, parts.name, parts.ty)?;
+    let _body_type = parts.body.ty();
+    let made = vsubst(alloc, &[(new, old)], parts.body)?;
     made.well_formed();
     Ok(made)
 }
 
 /// The body under another name for the variable: itself where the name is the same.
 #[tactic(auto, using(crate::proofs::Instances::kept, crate::proofs::Instances::changed, crate::proofs::Instances::renamed_memory))]
-pub(crate) fn renamed(
-    alloc: Global,
-    name: &str,
-    ty: &Ty,
-    body: &Term,
-    fresh: &str,
-) -> Result<Term, Fault>
-    requires named { is_identifier name.now ≡ true }
+pub(crate) fn renamed(alloc: Global, parts: Quantified<'_>, fresh: &str) -> Result<Term, Fault>
+    requires named { is_identifier parts.name.now ≡ true }
     requires fresh { is_identifier fresh.now ≡ true }
-    ensures { AnswersRenamed result (abstracted name.now ty.now body.now) fresh.now }
+    ensures { AnswersRenamed result (abstracted parts.entry.name.now parts.entry.ty.now parts.entry.body.now) fresh.now }
 {
-    let _body_type = body.ty();
-    body.well_formed();
-    if fresh == name {
-        return body.copy(alloc);
+    let _body_type = parts.body.ty();
+    parts.body.well_formed();
+    if fresh == parts.name {
+        return parts.body.copy(alloc);
     }
-    let new = variable_of(alloc, fresh, ty)?;
-    instance(alloc, name, ty, body, &new)
+    let new = variable_of(alloc, fresh, parts.ty)?;
+    instance(alloc, parts, &new)
 }

@@ -15,7 +15,8 @@ ghost use Rattle.hol_refine_table.specs.Answers.{step_in, AnswersLeaf, AnswersNa
 ghost use Rattle.hol_refine_table.specs.Rows as stated;
 
 use crate::assumed::are_assumed;
-use crate::making::{by_first, by_theorem, to_assuming_stated, to_stated};
+use crate::cited::Cited;
+use crate::making::{from_one, from_two, stored_theorem, subgoal, to_assuming, to_stated};
 use crate::names::{fresh_name, fresh_name_beside};
 use crate::quantified::{Quantified, instance, quantified_parts, renamed, variable_of};
 use hol_just::{Goal, Just, Rule, Step};
@@ -31,7 +32,7 @@ fn by_exists(alloc: Global, formula: &Term, witness: &Term) -> Result<Just, Faul
 {
     let formula = formula.copy(alloc)?;
     let witness = witness.copy(alloc)?;
-    by_first(alloc, Rule::Exists(formula, witness))
+    from_one(alloc, Rule::Exists(formula, witness), subgoal(alloc, 0))
 }
 
 // The body with the witness for the variable.
@@ -39,17 +40,15 @@ fn witnessed(
     alloc: Global,
     goal: &Goal,
     witness: &Term,
-    name: &str,
-    ty: &Ty,
-    body: &Term,
+    parts: Quantified<'_>,
 ) -> Result<Step, Fault>
-    requires named { is_identifier name.now ≡ true }
-    requires typed { type_of witness.now ≡ Some ty.now }
-    ensures { AnswersStep (stated.witnessed (goal_of goal.now) (abstracted name.now ty.now body.now) witness.now) (step_in result) }
+    requires named { is_identifier parts.name.now ≡ true }
+    requires typed { type_of witness.now ≡ Some parts.ty.now }
+    ensures { AnswersStep (stated.witnessed (goal_of goal.now) (abstracted parts.entry.name.now parts.entry.ty.now parts.entry.body.now) witness.now) (step_in result) }
 {
-    let instance = instance(alloc, name, ty, body, witness)?;
+    let instance = instance(alloc, parts, witness)?;
     let just = by_exists(alloc, &goal.concl, witness)?;
-    to_stated(alloc, goal, instance, just)
+    to_stated(alloc, goal, &instance, just)
 }
 
 // Whether the term is of this type.
@@ -70,7 +69,7 @@ pub(crate) fn exists_tac(alloc: Global, witness: &Term, goal: &Goal) -> Result<S
             if !is_of_type(parts.ty, witness) {
                 return Err(Fault::TypeMismatch);
             }
-            witnessed(alloc, goal, witness, parts.name, parts.ty, parts.body)
+            witnessed(alloc, goal, witness, parts)
         }
         None => Err(Fault::BadShape),
     }
@@ -82,25 +81,23 @@ fn by_gen(alloc: Global, name: &str, ty: &Ty) -> Result<Just, Fault>
     ensures { Makes result (by_rule (rule_gen (variable name.now ty.now)) (one_part from_first)) }
 {
     let variable = variable_of(alloc, name, ty)?;
-    by_first(alloc, Rule::Gen(variable))
+    from_one(alloc, Rule::Gen(variable), subgoal(alloc, 0))
 }
 
 // The body with a new variable.
 fn generalized(
     alloc: Global,
     goal: &Goal,
-    name: &str,
-    ty: &Ty,
-    body: &Term,
+    parts: Quantified<'_>,
     fresh: &str,
 ) -> Result<Step, Fault>
-    requires named { is_identifier name.now ≡ true }
+    requires named { is_identifier parts.name.now ≡ true }
     requires fresh { is_identifier fresh.now ≡ true }
-    ensures { AnswersStep (stated.generalized (goal_of goal.now) (abstracted name.now ty.now body.now) fresh.now) (step_in result) }
+    ensures { AnswersStep (stated.generalized (goal_of goal.now) (abstracted parts.entry.name.now parts.entry.ty.now parts.entry.body.now) fresh.now) (step_in result) }
 {
-    let instance = renamed(alloc, name, ty, body, fresh)?;
-    let just = by_gen(alloc, fresh, ty)?;
-    to_stated(alloc, goal, instance, just)
+    let instance = renamed(alloc, parts, fresh)?;
+    let just = by_gen(alloc, fresh, parts.ty)?;
+    to_stated(alloc, goal, &instance, just)
 }
 
 /// `!x. p` becomes `p` with a new variable for `x`.
@@ -111,14 +108,7 @@ pub(crate) fn gen_tac(alloc: Global, theory: &Theory, goal: &Goal) -> Result<Ste
     match quantified_parts(&goal.concl, "!") {
         Some(parts) => {
             let fresh = fresh_name(alloc, theory, goal, parts.name)?;
-            generalized(
-                alloc,
-                goal,
-                parts.name,
-                parts.ty,
-                parts.body,
-                fresh.as_str(),
-            )
+            generalized(alloc, goal, parts, fresh.as_str())
         }
         None => Err(Fault::BadShape),
     }
@@ -130,7 +120,12 @@ fn by_choose(alloc: Global, theorem: &str, name: &str, ty: &Ty) -> Result<Just, 
     ensures { Makes result (by_rule (rule_choose (variable name.now ty.now)) (two_parts (trees.named theorem.now) from_first)) }
 {
     let variable = variable_of(alloc, name, ty)?;
-    by_theorem(alloc, Rule::Choose(variable), theorem)
+    from_two(
+        alloc,
+        Rule::Choose(variable),
+        stored_theorem(alloc, theorem),
+        subgoal(alloc, 0),
+    )
 }
 
 // The goal, with the body of the theorem's conclusion assumed of a new variable.
@@ -145,9 +140,9 @@ fn chosen(
     requires fresh { is_identifier fresh.now ≡ true }
     ensures { AnswersStep (stated.chosen (goal_of goal.now) theorem.now (abstracted parts.entry.name.now parts.entry.ty.now parts.entry.body.now) fresh.now) (step_in result) }
 {
-    let instance = renamed(alloc, parts.name, parts.ty, parts.body, fresh)?;
+    let instance = renamed(alloc, parts, fresh)?;
     let just = by_choose(alloc, theorem, fresh, parts.ty)?;
-    to_assuming_stated(alloc, goal, instance, just)
+    to_assuming(alloc, goal, &instance, &goal.concl, just)
 }
 
 // The same of this theorem.
@@ -180,14 +175,13 @@ fn chosen_from(
 pub(crate) fn choose_tac(
     alloc: Global,
     theory: &Theory,
-    name: &str,
-    theorem: Option<&Thm>,
+    cited: Cited<'_>,
     goal: &Goal,
 ) -> Result<Step, Fault>
-    ensures { AnswersNamedLeaf theory.now (refiners.choose_tac name.now) name.now (option_map (λ t. t.now) theorem.entry) (goal_of goal.now) (step_in result) }
+    ensures { AnswersNamedLeaf theory.now (refiners.choose_tac cited.entry.name.now) cited.entry.name.now (option_map (λ t. t.now) cited.entry.theorem) (goal_of goal.now) (step_in result) }
 {
-    match theorem {
-        Some(theorem) => chosen_from(alloc, theory, name, theorem, goal),
+    match cited.theorem {
+        Some(theorem) => chosen_from(alloc, theory, cited.name, theorem, goal),
         None => Err(Fault::UnknownName),
     }
 }

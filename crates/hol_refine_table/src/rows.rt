@@ -7,16 +7,17 @@ ghost use Rattle.hol_model.specs.Logic.NamedLogic.{false_term};
 ghost use Rattle.hol_model.specs.Goals.Justifications.{by_rule, no_parts};
 ghost use Rattle.hol_model.specs.Refining.Refiners as refiners;
 ghost use Rattle.hol_model.specs.Refining.Refiners.{leaves, from_first, one_part};
-ghost use Rattle.hol_model.specs.Derived.InferenceRules.{rule_disch, rule_disj1, rule_disj2, rule_assume, rule_refl};
+ghost use Rattle.hol_model.specs.Derived.InferenceRules.{rule_disch, rule_assume, rule_refl};
+ghost use Rattle.hol_just.specs.Rules.{rule_of};
 ghost use Rattle.hol_just.specs.Steps.{goal_of};
 ghost use Rattle.hol_refine_table.specs.Answers.{step_in, AnswersStep, AnswersRow, Makes};
 ghost use Rattle.hol_refine_table.specs.Rows as stated;
 
 use crate::assumed::is_assumed;
-use crate::making::{by_both, by_first, by_itself, by_one, to_assuming, to_target, to_targets};
+use crate::making::{by_itself, from_one, from_two, subgoal, to_assuming, to_target, to_targets};
 use crate::parts::{connected_sides, equation_sides, negated_part};
 use hol_alpha::aconv;
-use hol_just::{Goal, Just, Rule, Step, sub};
+use hol_just::{Goal, Just, Rule, Step};
 use hol_model::Fault;
 use hol_terms::Term;
 use hol_types::Ty;
@@ -26,7 +27,7 @@ use std::alloc::Global;
 pub(crate) fn all_tac(alloc: Global, goal: &Goal) -> Result<Step, Fault>
     ensures { AnswersRow refiners.all_tac (goal_of goal.now) (step_in result) }
 {
-    let just = sub(alloc, 0)?;
+    let just = subgoal(alloc, 0)?;
     to_target(alloc, goal, &goal.concl, just)
 }
 
@@ -82,7 +83,7 @@ pub(crate) fn refl_tac(alloc: Global, goal: &Goal) -> Result<Step, Fault>
 fn both(alloc: Global, goal: &Goal, left: &Term, right: &Term) -> Result<Step, Fault>
     ensures { AnswersStep (stated.both (goal_of goal.now) left.now right.now) (step_in result) }
 {
-    let just = by_both(alloc, Rule::Conj)?;
+    let just = from_two(alloc, Rule::Conj, subgoal(alloc, 0), subgoal(alloc, 1))?;
     to_targets(alloc, goal, left, right, just)
 }
 
@@ -96,13 +97,12 @@ pub(crate) fn conj_tac(alloc: Global, goal: &Goal) -> Result<Step, Fault>
     }
 }
 
-// The left side alone.
-fn left_alone(alloc: Global, goal: &Goal, left: &Term, right: &Term) -> Result<Step, Fault>
-    ensures { AnswersStep (leaves (refiners.toward (goal_of goal.now) (named left.now) ∷ []) (by_rule (rule_disj1 right.now) (one_part from_first))) (step_in result) }
+// One side alone, by the rule that adds the other.
+fn to_side(alloc: Global, goal: &Goal, side: &Term, rule: Rule) -> Result<Step, Fault>
+    ensures { AnswersStep (leaves (refiners.toward (goal_of goal.now) (named side.now) ∷ []) (by_rule (rule_of rule) (one_part from_first))) (step_in result) }
 {
-    let right = right.copy(alloc)?;
-    let just = by_first(alloc, Rule::Disj1(right))?;
-    to_target(alloc, goal, left, just)
+    let just = from_one(alloc, rule, subgoal(alloc, 0))?;
+    to_target(alloc, goal, side, just)
 }
 
 /// `p \/ q` becomes `p`.
@@ -110,18 +110,12 @@ pub(crate) fn disj1_tac(alloc: Global, goal: &Goal) -> Result<Step, Fault>
     ensures { AnswersRow refiners.disj1_tac (goal_of goal.now) (step_in result) }
 {
     match connected_sides(&goal.concl, "\\/") {
-        Some(sides) => left_alone(alloc, goal, sides.left, sides.right),
+        Some(sides) => {
+            let q = sides.right.copy(alloc)?;
+            to_side(alloc, goal, sides.left, Rule::Disj1(q))
+        }
         None => Err(Fault::BadShape),
     }
-}
-
-// The right side alone.
-fn right_alone(alloc: Global, goal: &Goal, left: &Term, right: &Term) -> Result<Step, Fault>
-    ensures { AnswersStep (leaves (refiners.toward (goal_of goal.now) (named right.now) ∷ []) (by_rule (rule_disj2 left.now) (one_part from_first))) (step_in result) }
-{
-    let left = left.copy(alloc)?;
-    let just = by_first(alloc, Rule::Disj2(left))?;
-    to_target(alloc, goal, right, just)
 }
 
 /// `p \/ q` becomes `q`.
@@ -129,7 +123,10 @@ pub(crate) fn disj2_tac(alloc: Global, goal: &Goal) -> Result<Step, Fault>
     ensures { AnswersRow refiners.disj2_tac (goal_of goal.now) (step_in result) }
 {
     match connected_sides(&goal.concl, "\\/") {
-        Some(sides) => right_alone(alloc, goal, sides.left, sides.right),
+        Some(sides) => {
+            let p = sides.left.copy(alloc)?;
+            to_side(alloc, goal, sides.right, Rule::Disj2(p))
+        }
         None => Err(Fault::BadShape),
     }
 }
@@ -138,8 +135,7 @@ pub(crate) fn disj2_tac(alloc: Global, goal: &Goal) -> Result<Step, Fault>
 fn by_disch(alloc: Global, p: &Term) -> Result<Just, Fault>
     ensures { Makes result (by_rule (rule_disch p.now) (one_part from_first)) }
 {
-    let p = p.copy(alloc)?;
-    by_first(alloc, Rule::Disch(p))
+    from_one(alloc, Rule::Disch(p.copy(alloc)?), subgoal(alloc, 0))
 }
 
 // `q`, with `p` assumed.
@@ -164,12 +160,8 @@ fn refuted(alloc: Global, goal: &Goal, p: &Term) -> Result<Step, Fault>
     ensures { AnswersStep (stated.refuted (goal_of goal.now) p.now) (step_in result) }
 {
     let falsity = falsity(alloc)?;
-    let discharged = by_disch(alloc, p)?;
-    let just = by_one(alloc, Rule::NotIntro, discharged);
-    match just {
-        Ok(just) => to_assuming(alloc, goal, p, &falsity, just),
-        Err(fault) => Err(fault),
-    }
+    let just = from_one(alloc, Rule::NotIntro, by_disch(alloc, p))?;
+    to_assuming(alloc, goal, p, &falsity, just)
 }
 
 /// `p ==> q` becomes `q` with `p` assumed, and `~p` becomes `F` with `p` assumed.

@@ -1,6 +1,5 @@
 // The table: which row answers for a refiner.
 ghost use Rattle.std.specs.Prelude.{◌≡◌, true};
-ghost use Rattle.std.specs.Option.{option_map};
 ghost use Rattle.hol_model.specs.Logic.Theory.{IsLegal};
 ghost use Rattle.hol_model.specs.Goals.Replays.{IsKnownGoal};
 ghost use Rattle.hol_model.specs.Refining.Refiners.{is_in_table};
@@ -10,6 +9,7 @@ ghost use Rattle.hol_theorem_store.specs.Store.{stored_of};
 ghost use Rattle.hol_theorem_store.specs.Stored.{theorems_in};
 ghost use Rattle.hol_refine_table.specs.Answers.{step_in, AnswersLeaf};
 
+use crate::cited::cite;
 use crate::implications::{eq_tac, mp_tac, undisch_tac};
 use crate::quantifiers::{choose_tac, exists_tac, gen_tac};
 use crate::rows::{
@@ -17,22 +17,12 @@ use crate::rows::{
 };
 use crate::theorems::{accept_tac, assume_tac, disj_cases_tac};
 use hol_just::{Goal, Step};
-use hol_kernel::{Theory, Thm};
+use hol_kernel::Theory;
 use hol_model::Fault;
 use hol_tactic_exprs::Leaf;
 use hol_terms::Term;
 use hol_theorem_store::Store;
 use std::alloc::Global;
-
-// The stored theorem of a name.
-fn theorem_named<'a>(store: &'a Store, name: &str) -> Option<&'a Thm>
-    ensures { (theorems_in (stored_of store.now)).named name.now ≡ option_map (λ theorem. theorem.now) result }
-{
-    match store.get(name) {
-        Some(stored) => Some(stored.theorem()),
-        None => None,
-    }
-}
 
 /// What a refiner leaves of the goal, with its justification (HOL Light's tactics.ml; CONV_TAC, REWRITE_TAC and TAUT_TAC,
 /// which prove a theorem on the way, are not in this table). Refused, in this order: UnknownName where a name stands for no
@@ -54,15 +44,9 @@ pub fn leaf_step(
     match leaf {
         Leaf::All => all_tac(alloc, goal),
         Leaf::No => no_tac(),
-        Leaf::Accept(name) => {
-            let name = name.as_str();
-            accept_tac(alloc, name, theorem_named(store, name), goal)
-        }
+        Leaf::Accept(name) => accept_tac(alloc, cite(store, name), goal),
         Leaf::Assumption => assumption_tac(alloc, goal),
-        Leaf::Assume(name) => {
-            let name = name.as_str();
-            assume_tac(alloc, name, theorem_named(store, name), goal)
-        }
+        Leaf::Assume(name) => assume_tac(alloc, cite(store, name), goal),
         Leaf::Refl => refl_tac(alloc, goal),
         Leaf::Conj => conj_tac(alloc, goal),
         Leaf::Eq => eq_tac(alloc, goal),
@@ -71,18 +55,9 @@ pub fn leaf_step(
         Leaf::Disch => disch_tac(alloc, goal),
         Leaf::Gen => gen_tac(alloc, theory, goal),
         Leaf::Exists(witness) => exists_tac(alloc, witness, goal),
-        Leaf::Mp(name) => {
-            let name = name.as_str();
-            mp_tac(alloc, name, theorem_named(store, name), goal)
-        }
-        Leaf::DisjCases(name) => {
-            let name = name.as_str();
-            disj_cases_tac(alloc, name, theorem_named(store, name), goal)
-        }
-        Leaf::Choose(name) => {
-            let name = name.as_str();
-            choose_tac(alloc, theory, name, theorem_named(store, name), goal)
-        }
+        Leaf::Mp(name) => mp_tac(alloc, cite(store, name), goal),
+        Leaf::DisjCases(name) => disj_cases_tac(alloc, cite(store, name), goal),
+        Leaf::Choose(name) => choose_tac(alloc, theory, cite(store, name), goal),
         Leaf::Undisch(p) => undisch_tac(alloc, p, goal),
         Leaf::Conv(_) | Leaf::Rewrite(_) | Leaf::Taut => unreachable!(),
     }

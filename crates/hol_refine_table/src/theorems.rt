@@ -12,11 +12,13 @@ ghost use Rattle.hol_refine_table.specs.Answers.{step_in, AnswersStep, AnswersNa
 ghost use Rattle.hol_refine_table.specs.Rows as stated;
 
 use crate::assumed::are_assumed;
-use crate::making::{by_cases, by_theorem, closed, to_assuming, to_cases};
+use crate::cited::Cited;
+use crate::making::{
+    assuming, by_disj_cases, closed, from_two, stored_theorem, subgoal, to_assuming, to_two,
+};
 use crate::parts::connected_sides;
 use hol_alpha::aconv;
 use hol_just::{Goal, Rule, Step, named};
-use hol_kernel::Thm;
 use hol_model::Fault;
 use hol_terms::Term;
 use std::alloc::Global;
@@ -30,15 +32,10 @@ fn stored(alloc: Global, name: &str) -> Result<Step, Fault>
 }
 
 /// The target is the theorem's conclusion.
-pub(crate) fn accept_tac(
-    alloc: Global,
-    name: &str,
-    theorem: Option<&Thm>,
-    goal: &Goal,
-) -> Result<Step, Fault>
-    ensures { AnswersNamedRow (refiners.accept_tac name.now) name.now (option_map (λ t. t.now) theorem.entry) (goal_of goal.now) (step_in result) }
+pub(crate) fn accept_tac(alloc: Global, cited: Cited<'_>, goal: &Goal) -> Result<Step, Fault>
+    ensures { AnswersNamedRow (refiners.accept_tac cited.entry.name.now) cited.entry.name.now (option_map (λ t. t.now) cited.entry.theorem) (goal_of goal.now) (step_in result) }
 {
-    match theorem {
+    match cited.theorem {
         Some(theorem) => {
             if !aconv(theorem.concl(), &goal.concl) {
                 return Err(Fault::RefineFails);
@@ -46,7 +43,7 @@ pub(crate) fn accept_tac(
             if !are_assumed(theorem.hyps(), goal) {
                 return Err(Fault::RefineFails);
             }
-            stored(alloc, name)
+            stored(alloc, cited.name)
         }
         None => Err(Fault::UnknownName),
     }
@@ -56,25 +53,25 @@ pub(crate) fn accept_tac(
 fn assumed(alloc: Global, name: &str, conclusion: &Term, goal: &Goal) -> Result<Step, Fault>
     ensures { AnswersStep (leaves (refiners.assuming (goal_of goal.now) (named conclusion.now) ∷ []) (by_rule rule_prove_hyp (two_parts (trees.named name.now) from_first))) (step_in result) }
 {
-    let just = by_theorem(alloc, Rule::ProveHyp, name)?;
+    let just = from_two(
+        alloc,
+        Rule::ProveHyp,
+        stored_theorem(alloc, name),
+        subgoal(alloc, 0),
+    )?;
     to_assuming(alloc, goal, conclusion, &goal.concl, just)
 }
 
 /// The theorem's conclusion is assumed.
-pub(crate) fn assume_tac(
-    alloc: Global,
-    name: &str,
-    theorem: Option<&Thm>,
-    goal: &Goal,
-) -> Result<Step, Fault>
-    ensures { AnswersNamedRow (refiners.assume_tac name.now) name.now (option_map (λ t. t.now) theorem.entry) (goal_of goal.now) (step_in result) }
+pub(crate) fn assume_tac(alloc: Global, cited: Cited<'_>, goal: &Goal) -> Result<Step, Fault>
+    ensures { AnswersNamedRow (refiners.assume_tac cited.entry.name.now) cited.entry.name.now (option_map (λ t. t.now) cited.entry.theorem) (goal_of goal.now) (step_in result) }
 {
-    match theorem {
+    match cited.theorem {
         Some(theorem) => {
             if !are_assumed(theorem.hyps(), goal) {
                 return Err(Fault::RefineFails);
             }
-            assumed(alloc, name, theorem.concl(), goal)
+            assumed(alloc, cited.name, theorem.concl(), goal)
         }
         None => Err(Fault::UnknownName),
     }
@@ -84,26 +81,23 @@ pub(crate) fn assume_tac(
 fn split(alloc: Global, name: &str, left: &Term, right: &Term, goal: &Goal) -> Result<Step, Fault>
     ensures { AnswersStep (stated.split (goal_of goal.now) name.now left.now right.now) (step_in result) }
 {
-    let just = by_cases(alloc, Rule::DisjCases, name)?;
-    to_cases(alloc, goal, left, right, just)
+    let just = by_disj_cases(alloc, name)?;
+    let first = assuming(alloc, goal, left, &goal.concl)?;
+    let second = assuming(alloc, goal, right, &goal.concl)?;
+    to_two(alloc, first, second, just)
 }
 
 /// The theorem's conclusion is `p \/ q`: the goal with `p` assumed, and with `q` assumed.
-pub(crate) fn disj_cases_tac(
-    alloc: Global,
-    name: &str,
-    theorem: Option<&Thm>,
-    goal: &Goal,
-) -> Result<Step, Fault>
-    ensures { AnswersNamedRow (refiners.disj_cases_tac name.now) name.now (option_map (λ t. t.now) theorem.entry) (goal_of goal.now) (step_in result) }
+pub(crate) fn disj_cases_tac(alloc: Global, cited: Cited<'_>, goal: &Goal) -> Result<Step, Fault>
+    ensures { AnswersNamedRow (refiners.disj_cases_tac cited.entry.name.now) cited.entry.name.now (option_map (λ t. t.now) cited.entry.theorem) (goal_of goal.now) (step_in result) }
 {
-    match theorem {
+    match cited.theorem {
         Some(theorem) => match connected_sides(theorem.concl(), "\\/") {
             Some(sides) => {
                 if !are_assumed(theorem.hyps(), goal) {
                     return Err(Fault::RefineFails);
                 }
-                split(alloc, name, sides.left, sides.right, goal)
+                split(alloc, cited.name, sides.left, sides.right, goal)
             }
             None => Err(Fault::BadShape),
         },

@@ -6,4 +6,5 @@ use Rattle.hol_refine_table.proofs.implications.by_both_ways.Goals as goal
 
 pub returns : goal.returns
 returns c =
-    c.by_two.ensures (by_rule rule_undisch (one_part from_second)) (by_rule rule_undisch (one_part from_first)) c.in_ok-second.ensures c.in_ok-first.ensures refl refl
+    c.from_two.ensures (by_rule rule_undisch (one_part from_second)) (by_rule rule_undisch (one_part from_first))
+    (c.from_one.ensures from_second c.subgoal.ensures refl) (c.from_one-2.ensures from_first c.subgoal-2.ensures refl) refl refl

@@ -1,4 +1,4 @@
-use Rattle.std.proofs.Common.{◌∷◌, [], subst}
+use Rattle.std.proofs.Common.{◌∷◌, [], refl, subst}
 use Rattle.hol_model.specs.Terms.NamedTerm.{NamedTerm}
 use Rattle.hol_model.specs.Terms.Nameless.{image}
 use Rattle.hol_model.specs.Terms.Measures.{nameless_within_limits}
@@ -19,4 +19,4 @@ returns c p_typed q_typed =
     fitting (nameless_within_limits (image whole)) (record { goals = toward (goal_of c.args.goal.now) (named whole) ∷ []; justification = tree }) (step_in c.to_target.result)
     (c.in_ok-implication.ensures p_typed q_typed).0
     (subst (λ (t : NamedTerm). AnswersStep (leaves (toward (goal_of c.args.goal.now) (named t) ∷ []) tree) (step_in c.to_target.result)) (c.in_ok-implication.ensures p_typed q_typed).1
-    (c.to_target.ensures tree c.in_ok-just.ensures))
+    (c.to_target.ensures tree (c.in_ok-just.ensures from_first (trees.named c.args.name.now) c.subgoal.ensures c.stored_theorem.ensures refl refl)))

@@ -1,4 +1,4 @@
-use Rattle.std.proofs.Common.{◌≡◌, ◌∙◌, ◌∷◌, [], List, ap, subst}
+use Rattle.std.proofs.Common.{◌≡◌, ◌∙◌, ◌∷◌, [], List, ap, refl, subst}
 use Rattle.hol_model.specs.Terms.NamedTerm.{NamedTerm}
 use Rattle.hol_model.specs.Terms.Nameless.{image}
 use Rattle.hol_model.specs.Terms.Measures.{nameless_within_limits}
@@ -24,4 +24,4 @@ returns c p_typed q_typed =
     (c.to_one.ensures (from_assumptions others [] (named whole)) tree
     (subst (λ (a : List NamedTerm). IsGoal (from_assumptions a [] (named whole)) (record { assumptions = c.in_ok-asms.asms.items; target = c.in_ok-implication.implication })) left
     (with_target c.in_ok-asms.asms.items c.in_ok-implication.implication (named whole) (c.in_ok-implication.ensures p_typed q_typed).1))
-    c.in_ok-just.ensures)
+    (c.in_ok-just.ensures from_first c.subgoal.ensures refl))

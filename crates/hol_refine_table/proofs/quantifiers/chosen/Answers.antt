@@ -26,5 +26,5 @@ returns c =
     let at = abstracted c.args.parts.name.now c.args.parts.ty.now c.args.parts.body.now in
     let tree = trees.by_rule (rule_choose (variable c.args.fresh.now c.args.parts.ty.now)) (two_parts (trees.named c.args.theorem.now) from_first) in
     fitting (nameless_within_limits (body_with at (variable c.args.fresh.now c.args.parts.ty.now)))
-    (record { goals = assuming (goal_of c.args.goal.now) (renamed_body at c.args.fresh.now) ∷ []; justification = tree }) (step_in c.to_assuming_stated.result)
-    c.in_ok-instance.ensures.0 (c.to_assuming_stated.ensures (renamed_body at c.args.fresh.now) tree c.in_ok-instance.ensures.1 c.in_ok-just.ensures)
+    (record { goals = assuming (goal_of c.args.goal.now) (renamed_body at c.args.fresh.now) ∷ []; justification = tree }) (step_in c.to_assuming.result)
+    c.in_ok-instance.ensures.0 (c.to_assuming.ensures (renamed_body at c.args.fresh.now) tree c.in_ok-instance.ensures.1 c.in_ok-just.ensures)

@@ -15,16 +15,16 @@ use Rattle.hol_refine_table.proofs.quantifiers.generalized.Goals as goal
 pub returns-in_err-instance : goal.returns-in_err-instance
 returns-in_err-instance c =
     let p = err_from_is_err_and c.from_residual.result c.from_residual.ensures.1 in
-    let at = abstracted c.args.name.now c.args.ty.now c.args.body.now in
-    let tree = trees.by_rule (rule_gen (variable c.args.fresh.now c.args.ty.now)) (one_part from_first) in
+    let at = abstracted c.args.parts.name.now c.args.parts.ty.now c.args.parts.body.now in
+    let tree = trees.by_rule (rule_gen (variable c.args.fresh.now c.args.parts.ty.now)) (one_part from_first) in
     rw (p.1, p.2)
-    (unfitting (nameless_within_limits (body_with at (variable c.args.fresh.now c.args.ty.now)))
+    (unfitting (nameless_within_limits (body_with at (variable c.args.fresh.now c.args.parts.ty.now)))
     (record { goals = toward (goal_of c.args.goal.now) (renamed_body at c.args.fresh.now) ∷ []; justification = tree }) c.in_err-instance.field-0.0 c.in_err-instance.ensures)
 
 pub returns : goal.returns
 returns c =
-    let at = abstracted c.args.name.now c.args.ty.now c.args.body.now in
-    let tree = trees.by_rule (rule_gen (variable c.args.fresh.now c.args.ty.now)) (one_part from_first) in
-    fitting (nameless_within_limits (body_with at (variable c.args.fresh.now c.args.ty.now)))
+    let at = abstracted c.args.parts.name.now c.args.parts.ty.now c.args.parts.body.now in
+    let tree = trees.by_rule (rule_gen (variable c.args.fresh.now c.args.parts.ty.now)) (one_part from_first) in
+    fitting (nameless_within_limits (body_with at (variable c.args.fresh.now c.args.parts.ty.now)))
     (record { goals = toward (goal_of c.args.goal.now) (renamed_body at c.args.fresh.now) ∷ []; justification = tree }) (step_in c.to_stated.result)
     c.in_ok-instance.ensures.0 (c.to_stated.ensures (renamed_body at c.args.fresh.now) tree c.in_ok-instance.ensures.1 c.in_ok-just.ensures)

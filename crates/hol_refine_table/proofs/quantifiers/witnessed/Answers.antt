@@ -13,14 +13,14 @@ use Rattle.hol_refine_table.proofs.quantifiers.witnessed.Goals as goal
 pub returns-in_err-instance : goal.returns-in_err-instance
 returns-in_err-instance c =
     let p = err_from_is_err_and c.from_residual.result c.from_residual.ensures.1 in
-    let made = body_with (abstracted c.args.name.now c.args.ty.now c.args.body.now) c.args.witness.now in
+    let made = body_with (abstracted c.args.parts.name.now c.args.parts.ty.now c.args.parts.body.now) c.args.witness.now in
     let tree = trees.by_rule (rule_exists c.args.goal.now.concl c.args.witness.now) (one_part from_first) in
     rw (p.1, p.2)
     (unfitting (nameless_within_limits made) (record { goals = toward (goal_of c.args.goal.now) (up_to_names made) ∷ []; justification = tree }) c.in_err-instance.field-0.0 c.in_err-instance.ensures)
 
 pub returns : goal.returns
 returns c =
-    let made = body_with (abstracted c.args.name.now c.args.ty.now c.args.body.now) c.args.witness.now in
+    let made = body_with (abstracted c.args.parts.name.now c.args.parts.ty.now c.args.parts.body.now) c.args.witness.now in
     let tree = trees.by_rule (rule_exists c.args.goal.now.concl c.args.witness.now) (one_part from_first) in
     fitting (nameless_within_limits made) (record { goals = toward (goal_of c.args.goal.now) (up_to_names made) ∷ []; justification = tree }) (step_in c.to_stated.result)
     c.in_ok-instance.ensures.0 (c.to_stated.ensures (up_to_names made) tree c.in_ok-instance.ensures.1 c.in_ok-just.ensures)

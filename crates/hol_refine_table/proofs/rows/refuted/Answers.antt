@@ -7,10 +7,10 @@ use Rattle.hol_model.specs.Refining.Refiners.{one_part, from_first, from_assumpt
 use Rattle.hol_refine_table.specs.Answers.{AnswersStep, step_in}
 use Rattle.hol_refine_table.proofs.rows.refuted.Goals as goal
 
-pub returns-in-Ok : goal.returns-in-Ok
-returns-in-Ok c =
-    subst (λ (f : NamedTerm). AnswersStep (leaves (from_assumptions c.args.goal.now.asms.items (named c.args.p.now ∷ []) (named f) ∷ [])
-    (by_rule rule_not_intro (one_part (by_rule (rule_disch c.args.p.now) (one_part from_first))))) (step_in c.to_assuming.result))
+pub returns : goal.returns
+returns c =
+    let discharged = by_rule (rule_disch c.args.p.now) (one_part from_first) in
+    let tree = by_rule rule_not_intro (one_part discharged) in
+    subst (λ (f : NamedTerm). AnswersStep (leaves (from_assumptions c.args.goal.now.asms.items (named c.args.p.now ∷ []) (named f) ∷ []) tree) (step_in c.to_assuming.result))
     c.in_ok-falsity.ensures.ok
-    (c.to_assuming.ensures (by_rule rule_not_intro (one_part (by_rule (rule_disch c.args.p.now) (one_part from_first))))
-    (c.in-Ok.ensures (by_rule (rule_disch c.args.p.now) (one_part from_first)) c.in_ok-discharged.ensures refl))
+    (c.to_assuming.ensures (named c.args.p.now) tree refl (c.in_ok-just.ensures discharged c.by_disch.ensures refl))

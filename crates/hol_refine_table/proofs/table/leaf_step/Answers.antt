@@ -1,7 +1,7 @@
 use Rattle.std.proofs.Common.{ℕ, List, subst}
 use Rattle.std.specs.Option.{option_map}
 use Rattle.hol_model.specs.Refining.Refiners.{all_tac, no_tac, accept_tac, assumption_tac, assume_tac, refl_tac, conj_tac, eq_tac}
-use Rattle.hol_model.specs.Refining.Refiners.{disj1_tac, disj2_tac, disch_tac, gen_tac, exists_tac, mp_tac, disj_cases_tac, choose_tac, undisch_tac}
+use Rattle.hol_model.specs.Refining.Refiners.{disj1_tac, disj2_tac, disch_tac, exists_tac, mp_tac, disj_cases_tac, choose_tac, undisch_tac}
 use Rattle.hol_just.specs.Steps.{goal_of}
 use Rattle.hol_theorem_store.specs.Store.{stored_of}
 use Rattle.hol_theorem_store.specs.Stored.{theorems_in}
@@ -72,39 +72,39 @@ pub returns-in-Accept : goal.returns-in-Accept
 returns-in-Accept c =
     rw c.in-Accept.is
     (subst (λ (name : List ℕ). AnswersLeaf c.args.theory.now (theorems_in (stored_of c.args.store.now)) (accept_tac name) (goal_of c.args.goal.now) (step_in c.accept_tac.result))
-    c.as_str-name.ensures.value
-    (named_answers c.args.theory.now (theorems_in (stored_of c.args.store.now)) (accept_tac c.as_str-name.result.now) c.as_str-name.result.now
-    (option_map (λ t. t.now) c.theorem_named.result) (goal_of c.args.goal.now) (step_in c.accept_tac.result) tt c.theorem_named.ensures c.accept_tac.ensures))
+    c.cite.ensures.name
+    (named_answers c.args.theory.now (theorems_in (stored_of c.args.store.now)) (accept_tac c.cite.result.name.now) c.cite.result.name.now
+    (option_map (λ t. t.now) c.cite.result.theorem) (goal_of c.args.goal.now) (step_in c.accept_tac.result) tt c.cite.ensures.theorem c.accept_tac.ensures))
 
 pub returns-in-Assume : goal.returns-in-Assume
 returns-in-Assume c =
     rw c.in-Assume.is
     (subst (λ (name : List ℕ). AnswersLeaf c.args.theory.now (theorems_in (stored_of c.args.store.now)) (assume_tac name) (goal_of c.args.goal.now) (step_in c.assume_tac.result))
-    c.as_str-name-in-Assume.ensures.value
-    (named_answers c.args.theory.now (theorems_in (stored_of c.args.store.now)) (assume_tac c.as_str-name-in-Assume.result.now) c.as_str-name-in-Assume.result.now
-    (option_map (λ t. t.now) c.theorem_named-in-Assume.result) (goal_of c.args.goal.now) (step_in c.assume_tac.result) tt c.theorem_named-in-Assume.ensures c.assume_tac.ensures))
+    c.cite-in-Assume.ensures.name
+    (named_answers c.args.theory.now (theorems_in (stored_of c.args.store.now)) (assume_tac c.cite-in-Assume.result.name.now) c.cite-in-Assume.result.name.now
+    (option_map (λ t. t.now) c.cite-in-Assume.result.theorem) (goal_of c.args.goal.now) (step_in c.assume_tac.result) tt c.cite-in-Assume.ensures.theorem c.assume_tac.ensures))
 
 pub returns-in-Mp : goal.returns-in-Mp
 returns-in-Mp c =
     rw c.in-Mp.is
     (subst (λ (name : List ℕ). AnswersLeaf c.args.theory.now (theorems_in (stored_of c.args.store.now)) (mp_tac name) (goal_of c.args.goal.now) (step_in c.mp_tac.result))
-    c.as_str-name-in-Mp.ensures.value
-    (named_answers c.args.theory.now (theorems_in (stored_of c.args.store.now)) (mp_tac c.as_str-name-in-Mp.result.now) c.as_str-name-in-Mp.result.now
-    (option_map (λ t. t.now) c.theorem_named-in-Mp.result) (goal_of c.args.goal.now) (step_in c.mp_tac.result) tt c.theorem_named-in-Mp.ensures c.mp_tac.ensures))
+    c.cite-in-Mp.ensures.name
+    (named_answers c.args.theory.now (theorems_in (stored_of c.args.store.now)) (mp_tac c.cite-in-Mp.result.name.now) c.cite-in-Mp.result.name.now
+    (option_map (λ t. t.now) c.cite-in-Mp.result.theorem) (goal_of c.args.goal.now) (step_in c.mp_tac.result) tt c.cite-in-Mp.ensures.theorem c.mp_tac.ensures))
 
 pub returns-in-DisjCases : goal.returns-in-DisjCases
 returns-in-DisjCases c =
     rw c.in-DisjCases.is
     (subst (λ (name : List ℕ). AnswersLeaf c.args.theory.now (theorems_in (stored_of c.args.store.now)) (disj_cases_tac name) (goal_of c.args.goal.now) (step_in c.disj_cases_tac.result))
-    c.as_str-name-in-DisjCases.ensures.value
-    (named_answers c.args.theory.now (theorems_in (stored_of c.args.store.now)) (disj_cases_tac c.as_str-name-in-DisjCases.result.now) c.as_str-name-in-DisjCases.result.now
-    (option_map (λ t. t.now) c.theorem_named-in-DisjCases.result) (goal_of c.args.goal.now) (step_in c.disj_cases_tac.result) tt c.theorem_named-in-DisjCases.ensures c.disj_cases_tac.ensures))
+    c.cite-in-DisjCases.ensures.name
+    (named_answers c.args.theory.now (theorems_in (stored_of c.args.store.now)) (disj_cases_tac c.cite-in-DisjCases.result.name.now) c.cite-in-DisjCases.result.name.now
+    (option_map (λ t. t.now) c.cite-in-DisjCases.result.theorem) (goal_of c.args.goal.now) (step_in c.disj_cases_tac.result) tt c.cite-in-DisjCases.ensures.theorem c.disj_cases_tac.ensures))
 
 pub returns-in-Choose : goal.returns-in-Choose
 returns-in-Choose c =
     rw c.in-Choose.is
     (subst (λ (name : List ℕ). AnswersLeaf c.args.theory.now (theorems_in (stored_of c.args.store.now)) (choose_tac name) (goal_of c.args.goal.now) (step_in c.choose_tac.result))
-    c.as_str-name-in-Choose.ensures.value (c.choose_tac.ensures (theorems_in (stored_of c.args.store.now)) c.theorem_named-in-Choose.ensures))
+    c.cite-in-Choose.ensures.name (c.choose_tac.ensures (theorems_in (stored_of c.args.store.now)) c.cite-in-Choose.ensures.theorem))
 
 pub mp_tac-requires : goal.mp_tac-requires
 mp_tac-requires c = target-typed c.args.theory.now (goal_of c.args.goal.now) c.requires.known

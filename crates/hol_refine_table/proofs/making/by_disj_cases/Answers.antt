@@ -1,6 +1,6 @@
 use Rattle.std.proofs.Common.{refl}
 use Rattle.hol_model.specs.Goals.Justifications.{sub, named}
-use Rattle.hol_refine_table.proofs.making.by_cases.Goals as goal
+use Rattle.hol_refine_table.proofs.making.by_disj_cases.Goals as goal
 
 pub returns : goal.returns
 returns c =

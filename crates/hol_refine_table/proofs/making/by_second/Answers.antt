@@ -1,6 +1,0 @@
-use Rattle.std.proofs.Common.{refl}
-use Rattle.hol_model.specs.Goals.Justifications.{sub}
-use Rattle.hol_refine_table.proofs.making.by_second.Goals as goal
-
-pub returns : goal.returns
-returns c = c.by_one.ensures (sub 1) c.in_ok-second.ensures.tree refl
