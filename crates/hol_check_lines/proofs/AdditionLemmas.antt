@@ -1,6 +1,6 @@
 -- What a log has given, with what a line adds.
 use Rattle.std.proofs.Common.{◌≡◌, ℕ, ◌<◌, ◌+◌, List, [], ◌∷◌, ◌++◌, ◌||◌, length, append-nil, length-append, true, false, Bool, refl, sym, ◌∙◌, ap, subst, arith, Vec, Global, Result, Ok, Err}
-use Rattle.std.specs.Prelude.{map, OnErr}
+use Rattle.std.specs.Prelude.{map, OnOk, OnErr}
 use Rattle.std.specs.List.{All, slice_index_or}
 use Rattle.std.proofs.lemmas.List.{length-map, map_push}
 use Rattle.std.proofs.lemmas.List.Elements.{All-push}
@@ -13,11 +13,12 @@ use Rattle.hol_check_rules.specs.Known.{GivesConstant}
 use Rattle.hol_check_rules.specs.Hypotheses.{terms_in, AreOrdered}
 use Rattle.hol_check_rules.specs.State.{sequent_in, entry_in, theory_in, claim_in, state_of, IsFittingTheorem, HasEntryParts, IsClaim, IsContents}
 use Rattle.hol_check_rules.specs.Judged.{CanBeAdded, HasRoom, IsNewConstant}
-use Rattle.hol_check_lines.specs.Added.{IsAdded, IsEntered}
+use Rattle.hol_check_lines.specs.Added.{IsAdded, IsEntered, Gains, Keeps}
 use Rattle.hol_check_rules.specs.declared.state.Theorem.{Theorem}
 use Rattle.hol_check_rules.specs.declared.state.TheoryEntry.TheVariants.{Definition}
 use Rattle.hol_check_rules.specs.declared.state.ListedClaim.{ListedClaim}
 use Rattle.hol_check_rules.specs.declared.state.Contents.{Contents}
+use Rattle.hol_check_rules.specs.declared.state.Addition.{Addition}
 use Rattle.hol_check_rules.specs.declared.state.Addition.TheVariants.{TypeNumber, TermLine, Proved, Defined, Claimed}
 use Rattle.hol_check_changes.specs.Forming.{IsFitting}
 use Rattle.hol_check_written.specs.Written.{named_of, named_terms, AreWritten}
@@ -83,20 +84,6 @@ added-line table contents terms line is stands pushed = record {
     claims = sym (append-nil (state_of table contents).claims) i;
     is_ended = sym (either contents.is_ended) i;
   };
-}
-
--- a line that found no room
-pub kept-line : (table : TermTable) (contents : Contents) (terms : Vec Written Global) → IsContents table contents → terms.items ≡ contents.terms.items →
-    IsContents table (record contents { terms = terms })
-kept-line table contents terms is same = record {
-  types = is.types;
-  terms = subst (AreWritten table) (sym same) is.terms;
-  made = subst (λ l. AreMade table l contents.made.entries) (sym same) is.made;
-  theorems = is.theorems;
-  entries = is.entries;
-  room = is.room;
-  knows = is.knows;
-  claims = is.claims;
 }
 
 -- claims keep their theorems as theorems are added
@@ -171,6 +158,88 @@ added-claim table contents claims claim is stands pushed = record {
     claims = (ap (map (claim_in table contents.theorems.items)) pushed ∙ map_push (claim_in table contents.theorems.items) contents.claims.items claim) i;
     is_ended = sym (either contents.is_ended) i;
   };
+}
+
+-- a list with one more item, or without room for it
+
+pub gains-type : (contents : Contents) (addition : Addition) (types : Vec ℕ Global) (number : ℕ) (result : Result (Unit {0}) Fault) → addition ≡ TypeNumber number →
+    OnOk result (types.items ≡ contents.types.items ++ number ∷ []) → OnOk result (Gains contents addition (record contents { types = types }))
+gains-type contents addition types number (Ok _) is pushed = λ table holds stands.
+    subst (λ a. IsAdded table contents a (record contents { types = types })) (sym is) (added-type table contents types number holds (subst (CanBeAdded table contents) is stands) pushed)
+gains-type contents addition types number (Err fault) is pushed = tt
+
+pub keeps-types : (contents : Contents) (addition : Addition) (types : Vec ℕ Global) (result : Result (Unit {0}) Fault) → OnErr result (types.items ≡ contents.types.items) →
+    OnErr result (Keeps contents addition (record contents { types = types }))
+keeps-types contents addition types (Ok _) same = tt
+keeps-types contents addition types (Err fault) same = λ table is stands. record {
+  types = subst (All (λ n. n < length table.types)) (sym same) is.types;
+  terms = is.terms;
+  made = is.made;
+  theorems = is.theorems;
+  entries = is.entries;
+  room = is.room;
+  knows = is.knows;
+  claims = is.claims;
+}
+
+pub gains-line : (contents : Contents) (addition : Addition) (terms : Vec Written Global) (line : Written) (result : Result (Unit {0}) Fault) → addition ≡ TermLine line →
+    OnOk result (terms.items ≡ contents.terms.items ++ line ∷ []) → OnOk result (Gains contents addition (record contents { terms = terms }))
+gains-line contents addition terms line (Ok _) is pushed = λ table holds stands.
+    subst (λ a. IsAdded table contents a (record contents { terms = terms })) (sym is) (added-line table contents terms line holds (subst (CanBeAdded table contents) is stands) pushed)
+gains-line contents addition terms line (Err fault) is pushed = tt
+
+pub keeps-lines : (contents : Contents) (addition : Addition) (terms : Vec Written Global) (result : Result (Unit {0}) Fault) → OnErr result (terms.items ≡ contents.terms.items) →
+    OnErr result (Keeps contents addition (record contents { terms = terms }))
+keeps-lines contents addition terms (Ok _) same = tt
+keeps-lines contents addition terms (Err fault) same = λ table is stands. record {
+  types = is.types;
+  terms = subst (AreWritten table) (sym same) is.terms;
+  made = subst (λ l. AreMade table l contents.made.entries) (sym same) is.made;
+  theorems = is.theorems;
+  entries = is.entries;
+  room = is.room;
+  knows = is.knows;
+  claims = is.claims;
+}
+
+pub gains-theorem : (contents : Contents) (addition : Addition) (theorems : Vec Theorem Global) (theorem : Theorem) (result : Result (Unit {0}) Fault) → addition ≡ Proved theorem →
+    OnOk result (theorems.items ≡ contents.theorems.items ++ theorem ∷ []) → OnOk result (Gains contents addition (record contents { theorems = theorems }))
+gains-theorem contents addition theorems theorem (Ok _) is pushed = λ table holds stands.
+    subst (λ a. IsAdded table contents a (record contents { theorems = theorems })) (sym is) (added-theorem table contents theorems theorem holds (subst (CanBeAdded table contents) is stands) pushed)
+gains-theorem contents addition theorems theorem (Err fault) is pushed = tt
+
+pub keeps-theorems : (contents : Contents) (addition : Addition) (theorems : Vec Theorem Global) (result : Result (Unit {0}) Fault) → OnErr result (theorems.items ≡ contents.theorems.items) →
+    OnErr result (Keeps contents addition (record contents { theorems = theorems }))
+keeps-theorems contents addition theorems (Ok _) same = tt
+keeps-theorems contents addition theorems (Err fault) same = λ table is stands. record {
+  types = is.types;
+  terms = is.terms;
+  made = is.made;
+  theorems = subst (All (IsFittingTheorem table.terms)) (sym same) is.theorems;
+  entries = is.entries;
+  room = is.room;
+  knows = is.knows;
+  claims = subst (λ l. All (IsClaim table l) contents.claims.items) (sym same) is.claims;
+}
+
+pub gains-claim : (contents : Contents) (addition : Addition) (claims : Vec ListedClaim Global) (claim : ListedClaim) (result : Result (Unit {0}) Fault) → addition ≡ Claimed claim →
+    OnOk result (claims.items ≡ contents.claims.items ++ claim ∷ []) → OnOk result (Gains contents addition (record contents { claims = claims }))
+gains-claim contents addition claims claim (Ok _) is pushed = λ table holds stands.
+    subst (λ a. IsAdded table contents a (record contents { claims = claims })) (sym is) (added-claim table contents claims claim holds (subst (CanBeAdded table contents) is stands) pushed)
+gains-claim contents addition claims claim (Err fault) is pushed = tt
+
+pub keeps-claims : (contents : Contents) (addition : Addition) (claims : Vec ListedClaim Global) (result : Result (Unit {0}) Fault) → OnErr result (claims.items ≡ contents.claims.items) →
+    OnErr result (Keeps contents addition (record contents { claims = claims }))
+keeps-claims contents addition claims (Ok _) same = tt
+keeps-claims contents addition claims (Err fault) same = λ table is stands. record {
+  types = is.types;
+  terms = is.terms;
+  made = is.made;
+  theorems = is.theorems;
+  entries = is.entries;
+  room = is.room;
+  knows = is.knows;
+  claims = subst (All (IsClaim table contents.theorems.items)) (sym same) is.claims;
 }
 
 pub gives-definition : (table : TermTable) (contents : Contents) (name ty body : ℕ) → IsNewConstant table contents name ty →

@@ -5,7 +5,7 @@ use Rattle.std.specs.Option.{is_some}
 use Rattle.std.proofs.lemmas.List.{length-map, length-reverse}
 use Rattle.std.proofs.lemmas.Bool.{le-leb, leb-true}
 use Rattle.std.proofs.lemmas.Option.{get_or_from_slice_get}
-use Rattle.hol_model.specs.declared.fault.Cause.TheVariants.{Name, Rule, Large}
+use Rattle.hol_model.specs.declared.fault.Cause.TheVariants.{Rule, Large}
 use Rattle.hol_model.specs.declared.limits.TheConstants.{DEFINITIONS_LIMIT}
 use Rattle.hol_model.specs.Terms.Name.{is_declared_type_name, is_constant_name}
 use Rattle.hol_model.specs.Terms.HolType.{HolType}
@@ -23,7 +23,7 @@ use Rattle.hol_check_rules.specs.declared.state.Contents.{Contents}
 use Rattle.hol_check_rules.specs.declared.state.Addition.TheVariants.{NewType, NewConstant}
 use Rattle.hol_check_terms.proofs.TableLemmas.{is_within}
 use Rattle.hol_check_rules.proofs.StateLemmas.{theory-still}
-use Rattle.hol_check_lines.proofs.FaultLemmas.{no-fault, name-fault, rule-fault, size-fault, all-fit, entries-large}
+use Rattle.hol_check_lines.proofs.FaultLemmas.{no-fault, rule-fault, size-fault, all-fit, entries-large}
 use Rattle.hol_check_terms.proofs.GrowthLemmas.{type-grown, type-within}
 
 -- room for one more
@@ -65,8 +65,9 @@ no-type theory name is = unknown (generic_type theory name) (new-first (is_some 
 pub both : (p q : Bool) → p ≡ true → q ≡ true → not (p && q) ≡ false
 both p q one two = cc
 
-pub not-second : (p q : Bool) → p ≡ true → q ≡ false → not (p && q) ≡ true
-not-second p q one two = cc
+pub no-second : (p q : Bool) → q ≡ false → (p && q) ≡ false
+no-second true q is = is
+no-second false q is = refl
 
 -- a line with a new name, while the tables grow
 module _ (t0 t1 : TermTable) (contents : Contents) (is : IsContents t0 contents) (name : List ℕ) (number : ℕ) (grown : IsGrown t0 t1) (named : slice_get t1.names number ≡ Some name)
@@ -95,14 +96,6 @@ module _ (t0 t1 : TermTable) (contents : Contents) (is : IsContents t0 contents)
     grows = grown;
   }
 
-  pub taken-type : is_declared_type_name name ≡ true → is_new_name (theory_in t0 contents.entries.items) (name_at t1.names number) ≡ false → Judges (new_type_line name) contents t0 (Ok (Err Name)) t1
-  taken-type legal taken = record {
-    judged = name-fault (state_of t0 contents) (new_type_line name) second refl (not-second (is_declared_type_name name) (is_new_name (theory_in t0 contents.entries.items) name) legal
-        (same-name ∙ taken));
-    refused = tt;
-    grows = grown;
-  }
-
   pub full-type : is_declared_type_name name ≡ true → is_new_name (theory_in t0 contents.entries.items) (name_at t1.names number) ≡ true →
       nat_le DEFINITIONS_LIMIT (length contents.entries.items) ≡ true
       → Judges (new_type_line name) contents t0 (Ok (Err Large)) t1
@@ -117,14 +110,6 @@ module _ (t0 t1 : TermTable) (contents : Contents) (is : IsContents t0 contents)
   module _ (line ty : ℕ) (type_named : NamesType (state_of t0 contents) line t0.types ty) (legal : is_constant_name name ≡ true) where
     type-is : given.type_at (state_of t0 contents) line ≡ type_at t1.types ty
     type-is = type_named.named ∙ sym (type-grown t0.types t1.types ty grown.types type_named.within)
-
-    pub taken-constant : is_new_name (theory_in t0 contents.entries.items) (name_at t1.names number) ≡ false → Judges (new_constant_line name line) contents t0 (Ok (Err Name)) t1
-    taken-constant taken = record {
-      judged = name-fault (state_of t0 contents) (new_constant_line name line) second type_named.is_there
-          (not-second (is_constant_name name) (is_new_name (theory_in t0 contents.entries.items) name) legal (same-name ∙ taken));
-      refused = tt;
-      grows = grown;
-    }
 
     module _ (new : is_new_name (theory_in t0 contents.entries.items) (name_at t1.names number) ≡ true) where
       named-well : not (is_constant_name name && is_new_name (theory_in t0 contents.entries.items) name) ≡ false

@@ -43,10 +43,6 @@ module _ (state : LogState) (line : LogLine) where
   abbrev after-shape : List (Bool × Cause)
   after-shape = (has_number_fault state line, Number) ∷ after-number
 
-  pub name-fault : has_shape_fault state line ≡ false → has_number_fault state line ≡ false → has_name_fault state line ≡ true → first_fault state line ≡ Some Name
-  name-fault h0 h1 is = skipped (has_shape_fault state line) Shape after-shape h0 ∙
-      (skipped (has_number_fault state line) Number after-number h1 ∙ (applies (has_name_fault state line) Name after-name is))
-
   pub type-fault : has_shape_fault state line ≡ false → has_number_fault state line ≡ false → has_name_fault state line ≡ false → has_type_fault state line ≡ true → first_fault state line ≡ Some Kind
   type-fault h0 h1 h2 is = skipped (has_shape_fault state line) Shape after-shape h0 ∙
       (skipped (has_number_fault state line) Number after-number h1 ∙ (skipped (has_name_fault state line) Name after-name h2 ∙ (applies (has_type_fault state line) Kind after-type is)))

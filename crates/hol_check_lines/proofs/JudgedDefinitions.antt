@@ -24,8 +24,7 @@ use Rattle.hol_check_rules.specs.declared.state.Contents.{Contents}
 use Rattle.hol_check_rules.specs.declared.state.Addition.TheVariants.{Defined}
 use Rattle.hol_check_terms.proofs.TableLemmas.{is_within}
 use Rattle.hol_check_rules.proofs.StateLemmas.{theory-still, longer-place}
-use Rattle.hol_check_lines.proofs.FaultLemmas.{name-fault}
-use Rattle.hol_check_lines.proofs.EntryLineLemmas.{both, not-second, has-room, one-fits, none-fits, no-type}
+use Rattle.hol_check_lines.proofs.EntryLineLemmas.{both, has-room, one-fits, none-fits, no-type}
 use Rattle.hol_check_terms.proofs.GrowthLemmas.{type-there, term-there, term-grown, within-grown, IsGrown-trans}
 
 -- tests
@@ -64,14 +63,6 @@ module _ (t0 t1 : TermTable) (contents : Contents) (is : IsContents t0 contents)
 
   same-name : is_new_name (theory_in t0 contents.entries.items) name ≡ is_new_name (theory_in t0 contents.entries.items) (name_at t1.names number)
   same-name = ap (is_new_name (theory_in t0 contents.entries.items)) (sym name-is)
-
-  pub taken-definition : is_new_name (theory_in t0 contents.entries.items) (name_at t1.names number) ≡ false → Judges (theorem_line (definition_step name line)) contents t0 (Ok (Err Name)) t1
-  taken-definition taken = record {
-    judged = name-fault (state_of t0 contents) (theorem_line (definition_step name line)) refl body_named.is_there
-        (not-second (is_constant_name name) (is_new_name (theory_in t0 contents.entries.items) name) legal (same-name ∙ taken));
-    refused = tt;
-    grows = grown;
-  }
 
   module _ (t2 : TermTable) (later : IsGrown t1 t2) (new : is_new_name (theory_in t0 contents.entries.items) (name_at t1.names number) ≡ true) where
     whole : IsGrown t0 t2

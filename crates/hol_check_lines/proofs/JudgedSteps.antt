@@ -6,7 +6,7 @@ use Rattle.hol_model.specs.declared.limits.TheConstants.{DEFINITIONS_LIMIT}
 use Rattle.hol_model.specs.declared.fault.Cause.TheVariants.{Number, Name, Kind, Rule, Large}
 use Rattle.hol_model.specs.Logs.LogLine.{LogRule}
 use Rattle.hol_model.specs.Logs.LogLine.LogLine.{theorem_line}
-use Rattle.hol_model.specs.Logs.LogLine.LogRule.{refl_step, trans_step, mk_comb_step, abs_step, beta_step, assume_step, eq_mp_step, deduct_step, inst_step, inst_type_step, eta_step, select_step}
+use Rattle.hol_model.specs.Logs.LogLine.LogRule.{abs_step, inst_step, inst_type_step, eta_step, select_step}
 use Rattle.hol_model.specs.Terms.Nameless.{Nameless}
 use Rattle.hol_model.specs.Logs.LogState.{LogState}
 use Rattle.hol_model.specs.Logs.LogSequents.{sequent_of, rule_entries}
@@ -21,6 +21,11 @@ use Rattle.hol_check_rules.specs.Steps.{Step, IsStep, step_cause, IsTaken}
 use Rattle.hol_check_rules.specs.declared.state.Theorem.{Theorem}
 use Rattle.hol_check_rules.specs.declared.state.Contents.{Contents}
 use Rattle.hol_check_rules.specs.declared.state.Addition.TheVariants.{Proved}
+use Rattle.hol_check_lines.specs.Rules.{term_rule, term_step, pair_rule, pair_step}
+use Rattle.hol_check_lines.specs.declared.step.TermRule.{TermRule}
+use Rattle.hol_check_lines.specs.declared.step.TermRule.TheVariants.{Refl, Beta, Assume}
+use Rattle.hol_check_lines.specs.declared.step.PairRule.{PairRule}
+use Rattle.hol_check_lines.specs.declared.step.PairRule.TheVariants.{Trans, MkComb, EqMp, Deduct}
 
 -- causes
 
@@ -73,34 +78,21 @@ pub neither-true : (p q : Bool) → p ≡ false → q ≡ false → (p || q) ≡
 neither-true p q first second = grind arith
 
 module _ (state : LogState) (terms : List Nameless) where
-  pub refl-step : (t n : ℕ) → NamesTerm state t terms n → IsStep state (refl_step t) (steps.refl_step (term_at terms n))
-  refl-step t n named = record { numbers = named.is_there; is_step = ap steps.refl_step named.named; entries = refl }
+  pub term-step : (rule : TermRule) (t n : ℕ) → NamesTerm state t terms n → IsStep state (term_rule rule t) (term_step rule (term_at terms n))
+  term-step Refl t n named = record { numbers = named.is_there; is_step = ap steps.refl_step named.named; entries = refl }
+  term-step Beta t n named = record { numbers = named.is_there; is_step = ap steps.beta_step named.named; entries = refl }
+  term-step Assume t n named = record { numbers = named.is_there; is_step = ap steps.assume_step named.named; entries = refl }
 
-  pub trans-step : (i j : ℕ) (first second : Theorem) → NamesTheorem state i terms first → NamesTheorem state j terms second →
-      IsStep state (trans_step i j) (steps.trans_step (sequent_in terms first) (sequent_in terms second))
-  trans-step i j first second one two = record { numbers = neither-true _ _ one.is_there two.is_there; is_step = λ k. steps.trans_step (one.named k) (two.named k); entries = refl }
-
-  pub mk_comb-step : (i j : ℕ) (first second : Theorem) → NamesTheorem state i terms first → NamesTheorem state j terms second →
-      IsStep state (mk_comb_step i j) (steps.mk_comb_step (sequent_in terms first) (sequent_in terms second))
-  mk_comb-step i j first second one two = record { numbers = neither-true _ _ one.is_there two.is_there; is_step = λ k. steps.mk_comb_step (one.named k) (two.named k); entries = refl }
+  pub pair-step : (rule : PairRule) (i j : ℕ) (first second : Theorem) → NamesTheorem state i terms first → NamesTheorem state j terms second →
+      IsStep state (pair_rule rule i j) (pair_step rule (sequent_in terms first) (sequent_in terms second))
+  pair-step Trans i j first second one two = record { numbers = neither-true _ _ one.is_there two.is_there; is_step = λ k. steps.trans_step (one.named k) (two.named k); entries = refl }
+  pair-step MkComb i j first second one two = record { numbers = neither-true _ _ one.is_there two.is_there; is_step = λ k. steps.mk_comb_step (one.named k) (two.named k); entries = refl }
+  pair-step EqMp i j first second one two = record { numbers = neither-true _ _ one.is_there two.is_there; is_step = λ k. steps.eq_mp_step (one.named k) (two.named k); entries = refl }
+  pair-step Deduct i j first second one two = record { numbers = neither-true _ _ one.is_there two.is_there; is_step = λ k. steps.deduct_step (one.named k) (two.named k); entries = refl }
 
   pub abs-step : (t i n : ℕ) (premise : Theorem) → NamesTerm state t terms n → NamesTheorem state i terms premise →
       IsStep state (abs_step t i) (steps.abs_step (term_at terms n) (sequent_in terms premise))
   abs-step t i n premise one two = record { numbers = neither-true _ _ one.is_there two.is_there; is_step = λ k. steps.abs_step (one.named k) (two.named k); entries = refl }
-
-  pub beta-step : (t n : ℕ) → NamesTerm state t terms n → IsStep state (beta_step t) (steps.beta_step (term_at terms n))
-  beta-step t n named = record { numbers = named.is_there; is_step = ap steps.beta_step named.named; entries = refl }
-
-  pub assume-step : (t n : ℕ) → NamesTerm state t terms n → IsStep state (assume_step t) (steps.assume_step (term_at terms n))
-  assume-step t n named = record { numbers = named.is_there; is_step = ap steps.assume_step named.named; entries = refl }
-
-  pub eq_mp-step : (i j : ℕ) (first second : Theorem) → NamesTheorem state i terms first → NamesTheorem state j terms second →
-      IsStep state (eq_mp_step i j) (steps.eq_mp_step (sequent_in terms first) (sequent_in terms second))
-  eq_mp-step i j first second one two = record { numbers = neither-true _ _ one.is_there two.is_there; is_step = λ k. steps.eq_mp_step (one.named k) (two.named k); entries = refl }
-
-  pub deduct-step : (i j : ℕ) (first second : Theorem) → NamesTheorem state i terms first → NamesTheorem state j terms second →
-      IsStep state (deduct_step i j) (steps.deduct_step (sequent_in terms first) (sequent_in terms second))
-  deduct-step i j first second one two = record { numbers = neither-true _ _ one.is_there two.is_there; is_step = λ k. steps.deduct_step (one.named k) (two.named k); entries = refl }
 
   pub inst-step : (i : ℕ) (lines pairs : List (ℕ × ℕ)) (premise : Theorem) → NamesTheorem state i terms premise → NamesTermPairs state lines terms pairs
       → IsStep state (inst_step i lines) (steps.inst_step (sequent_in terms premise) (term_pairs_in terms pairs))

@@ -3,7 +3,7 @@ use Rattle.std.specs.Prelude.{◌≡◌, ◌∷◌, ◌++◌, ◌||◌}
 use Rattle.hol_model.specs.Logs.LogState.{LogState}
 use Rattle.hol_check_terms.specs.Terms.{TermTable}
 use Rattle.hol_check_rules.specs.State.{state_of, entry_in, theory_in, IsContents}
-use Rattle.hol_check_rules.specs.Judged.{added_types, added_terms, added_theorems, added_entries, added_claims, is_end}
+use Rattle.hol_check_rules.specs.Judged.{added_types, added_terms, added_theorems, added_entries, added_claims, is_end, CanBeAdded}
 use Rattle.hol_check_rules.specs.declared.state.TheoryEntry.{TheoryEntry}
 use Rattle.hol_check_rules.specs.declared.state.Contents.{Contents}
 use Rattle.hol_check_rules.specs.declared.state.Addition.{Addition}
@@ -26,6 +26,14 @@ with_addition table contents addition =
 pub record IsAdded (table : TermTable) (contents : Contents) (addition : Addition) (now : Contents) : Type 0 where
   pub is_contents : IsContents table now
   pub state : state_of table now ≡ with_addition table contents addition
+
+-- what can be added is added
+abbrev pub Gains : Contents → Addition → Contents → Type 0
+Gains contents addition now = (table : TermTable) → IsContents table contents → CanBeAdded table contents addition → IsAdded table contents addition now
+
+-- what can be added found no memory
+abbrev pub Keeps : Contents → Addition → Contents → Type 0
+Keeps contents addition now = (table : TermTable) → IsContents table contents → CanBeAdded table contents addition → IsContents table now
 
 -- the later contents are the earlier ones and an entry of the theory
 pub record IsEntered (table : TermTable) (contents : Contents) (entry : TheoryEntry) (now : Contents) : Type 0 where

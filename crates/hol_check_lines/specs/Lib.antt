@@ -5,3 +5,5 @@ pub mod Taken
 pub mod LogCode
 pub mod Log
 pub mod Named
+pub mod Rules
+pub mod NewNames

@@ -5,25 +5,24 @@ ghost use Rattle.hol_model.specs.declared.fault.Fault.TheVariants.{Memory};
 ghost use Rattle.hol_check_terms.specs.Terms.{TermTable};
 ghost use Rattle.hol_check_rules.specs.Known.{GivesConstant};
 ghost use Rattle.hol_check_rules.specs.State.{entry_in, theory_in, HasEntryParts, IsContents};
-ghost use Rattle.hol_check_rules.specs.Judged.{CanBeAdded, HasRoom};
-ghost use Rattle.hol_check_lines.specs.Added.{IsAdded, IsEntered};
+ghost use Rattle.hol_check_rules.specs.Judged.{HasRoom};
+ghost use Rattle.hol_check_lines.specs.Added.{IsAdded, IsEntered, Gains, Keeps};
 ghost use Rattle.hol_check_rules.specs.declared.state.Addition.TheVariants as addition;
 
 use hol_check_rules::known::{add_constant, add_type};
-use hol_check_rules::state::{Addition, Contents, ListedClaim, Theorem, TheoryEntry};
-use hol_check_written::written::Written;
+use hol_check_rules::state::{Addition, Contents, Theorem, TheoryEntry};
 use hol_model::Fault;
 use std::alloc::Global;
 
 /// Adds what an accepted line adds.
 pub(crate) fn add(alloc: Global, contents: &mut Contents, addition: Addition) -> Result<(), Fault>
-    ensures added { OnOk result ((table : TermTable) → IsContents table contents.old → CanBeAdded table contents.old addition → IsAdded table contents.old addition contents.new) }
+    ensures added { OnOk result (Gains contents.old addition contents.new) }
     ensures refused { IfErr result (λ fault. fault ≡ Memory) }
-    ensures kept { OnErr result ((table : TermTable) → IsContents table contents.old → CanBeAdded table contents.old addition → IsContents table contents.new) }
+    ensures kept { OnErr result (Keeps contents.old addition contents.new) }
 {
     match addition {
-        Addition::TypeNumber(number) => add_type_number(contents, number),
-        Addition::TermLine(line) => add_term_line(contents, line),
+        Addition::TypeNumber(number) => push(&mut contents.types, number),
+        Addition::TermLine(line) => push(&mut contents.terms, line),
         Addition::Proved(theorem) => add_theorem(contents, theorem),
         Addition::Defined(name, ty, body, conclusion) => {
             let hypotheses = Vec::new(alloc);
@@ -35,7 +34,7 @@ pub(crate) fn add(alloc: Global, contents: &mut Contents, addition: Addition) ->
         }
         Addition::NewType(name) => declare_type(contents, name),
         Addition::NewConstant(name, ty) => add_constant_declaration(contents, name, ty),
-        Addition::Claimed(claim) => add_claim(contents, claim),
+        Addition::Claimed(claim) => push(&mut contents.claims, claim),
         Addition::Ended => {
             end(contents);
             Ok(())
@@ -43,52 +42,24 @@ pub(crate) fn add(alloc: Global, contents: &mut Contents, addition: Addition) ->
     }
 }
 
-fn add_type_number(contents: &mut Contents, number: usize) -> Result<(), Fault>
-    ensures added { OnOk result ((table : TermTable) → IsContents table contents.old → CanBeAdded table contents.old (addition.TypeNumber number)
-        → IsAdded table contents.old (addition.TypeNumber number) contents.new) }
+// Adds an item to a list.
+fn push<T: Drop>(list: &mut Vec<T>, item: T) -> Result<(), Fault>
+    ensures added { OnOk result (list.new.items ≡ list.old.items ++ item ∷ []) }
     ensures refused { IfErr result (λ fault. fault ≡ Memory) }
-    ensures kept { OnErr result ((table : TermTable) → IsContents table contents.old → CanBeAdded table contents.old (addition.TypeNumber number) → IsContents table contents.new) }
+    ensures kept { OnErr result (list.new.items ≡ list.old.items) }
 {
-    match contents.types.push(number) {
+    match list.push(item) {
         Ok(()) => Ok(()),
-        Err(_number) => Err(Fault::Memory),
-    }
-}
-
-fn add_term_line(contents: &mut Contents, line: Written) -> Result<(), Fault>
-    ensures added { OnOk result ((table : TermTable) → IsContents table contents.old → CanBeAdded table contents.old (addition.TermLine line)
-        → IsAdded table contents.old (addition.TermLine line) contents.new) }
-    ensures refused { IfErr result (λ fault. fault ≡ Memory) }
-    ensures kept { OnErr result ((table : TermTable) → IsContents table contents.old → CanBeAdded table contents.old (addition.TermLine line) → IsContents table contents.new) }
-{
-    match contents.terms.push(line) {
-        Ok(()) => Ok(()),
-        Err(_line) => Err(Fault::Memory),
+        Err(_item) => Err(Fault::Memory),
     }
 }
 
 fn add_theorem(contents: &mut Contents, theorem: Theorem) -> Result<(), Fault>
-    ensures added { OnOk result ((table : TermTable) → IsContents table contents.old → CanBeAdded table contents.old (addition.Proved theorem)
-        → IsAdded table contents.old (addition.Proved theorem) contents.new) }
+    ensures added { OnOk result (Gains contents.old (addition.Proved theorem) contents.new) }
     ensures refused { IfErr result (λ fault. fault ≡ Memory) }
-    ensures kept { OnErr result ((table : TermTable) → IsContents table contents.old → CanBeAdded table contents.old (addition.Proved theorem) → IsContents table contents.new) }
+    ensures kept { OnErr result (Keeps contents.old (addition.Proved theorem) contents.new) }
 {
-    match contents.theorems.push(theorem) {
-        Ok(()) => Ok(()),
-        Err(_theorem) => Err(Fault::Memory),
-    }
-}
-
-fn add_claim(contents: &mut Contents, claim: ListedClaim) -> Result<(), Fault>
-    ensures added { OnOk result ((table : TermTable) → IsContents table contents.old → CanBeAdded table contents.old (addition.Claimed claim)
-        → IsAdded table contents.old (addition.Claimed claim) contents.new) }
-    ensures refused { IfErr result (λ fault. fault ≡ Memory) }
-    ensures kept { OnErr result ((table : TermTable) → IsContents table contents.old → CanBeAdded table contents.old (addition.Claimed claim) → IsContents table contents.new) }
-{
-    match contents.claims.push(claim) {
-        Ok(()) => Ok(()),
-        Err(_claim) => Err(Fault::Memory),
-    }
+    push(&mut contents.theorems, theorem)
 }
 
 fn end(contents: &mut Contents)
@@ -131,10 +102,9 @@ fn declare_constant(
 
 // Adds a declared type of a new name.
 fn declare_type(contents: &mut Contents, name: usize) -> Result<(), Fault>
-    ensures added { OnOk result ((table : TermTable) → IsContents table contents.old → CanBeAdded table contents.old (addition.NewType name)
-        → IsAdded table contents.old (addition.NewType name) contents.new) }
+    ensures added { OnOk result (Gains contents.old (addition.NewType name) contents.new) }
     ensures refused { IfErr result (λ fault. fault ≡ Memory) }
-    ensures kept { OnErr result ((table : TermTable) → IsContents table contents.old → CanBeAdded table contents.old (addition.NewType name) → IsContents table contents.new) }
+    ensures kept { OnErr result (Keeps contents.old (addition.NewType name) contents.new) }
 {
     if contents.entries.reserve(1).is_err() {
         return Err(Fault::Memory);
@@ -145,10 +115,9 @@ fn declare_type(contents: &mut Contents, name: usize) -> Result<(), Fault>
 }
 
 fn add_constant_declaration(contents: &mut Contents, name: usize, ty: usize) -> Result<(), Fault>
-    ensures added { OnOk result ((table : TermTable) → IsContents table contents.old → CanBeAdded table contents.old (addition.NewConstant name ty)
-        → IsAdded table contents.old (addition.NewConstant name ty) contents.new) }
+    ensures added { OnOk result (Gains contents.old (addition.NewConstant name ty) contents.new) }
     ensures refused { IfErr result (λ fault. fault ≡ Memory) }
-    ensures kept { OnErr result ((table : TermTable) → IsContents table contents.old → CanBeAdded table contents.old (addition.NewConstant name ty) → IsContents table contents.new) }
+    ensures kept { OnErr result (Keeps contents.old (addition.NewConstant name ty) contents.new) }
 {
     declare_constant(contents, TheoryEntry::DeclaredConstant(name, ty), name, ty)
 }
@@ -161,12 +130,9 @@ fn add_definition(
     theorem: Theorem,
 ) -> Result<(), Fault>
     requires { theorem.hypotheses.items ≡ [] }
-    ensures added { OnOk result ((table : TermTable) → IsContents table contents.old
-        → CanBeAdded table contents.old (addition.Defined name ty body theorem.conclusion)
-        → IsAdded table contents.old (addition.Defined name ty body theorem.conclusion) contents.new) }
+    ensures added { OnOk result (Gains contents.old (addition.Defined name ty body theorem.conclusion) contents.new) }
     ensures refused { IfErr result (λ fault. fault ≡ Memory) }
-    ensures kept { OnErr result ((table : TermTable) → IsContents table contents.old
-        → CanBeAdded table contents.old (addition.Defined name ty body theorem.conclusion) → IsContents table contents.new) }
+    ensures kept { OnErr result (Keeps contents.old (addition.Defined name ty body theorem.conclusion) contents.new) }
 {
     declare_constant(contents, TheoryEntry::Definition(name, ty, body), name, ty)?;
     add_theorem(contents, theorem)

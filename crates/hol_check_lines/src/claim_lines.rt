@@ -11,6 +11,7 @@ ghost use Rattle.hol_check_terms.specs.Terms.{term_at};
 ghost use Rattle.hol_check_lines.specs.ClaimLines.{AreNamed, is_sequent};
 ghost use Rattle.hol_check_changes.specs.Forming.{IsFitting};
 
+use crate::judge::Judged;
 use hol_check_rules::hypotheses::set_of;
 use hol_check_rules::state::{Addition, Contents, ListedClaim, Theorem, term_at, theorem_at};
 use hol_check_terms::terms::Terms;
@@ -27,7 +28,7 @@ pub(crate) fn judge_claim(
     theorem: u32,
     conclusion: u32,
     hypotheses: &[u32],
-) -> Result<Result<Addition, Cause>, Fault>
+) -> Judged
     requires contents { IsContents terms.old contents.now }
     requires conclusion { IsMadeLine contents.now conclusion }
     requires hypotheses { All (IsMadeLine contents.now) hypotheses.now }

@@ -18,13 +18,16 @@ use hol_logtext::Line;
 use hol_model::{Cause, Fault};
 use std::alloc::Global;
 
+/// What a line adds, or the first cause for which it is refused. A fault tells of memory that is used up.
+pub(crate) type Judged = Result<Result<Addition, Cause>, Fault>;
+
 /// What a line adds, or the first cause for which it is refused, but for `end`.
 pub(crate) fn judge(
     alloc: Global,
     terms: &mut Terms,
     contents: &Contents,
     line: &Line<'_>,
-) -> Result<Result<Addition, Cause>, Fault>
+) -> Judged
     requires contents { IsContents terms.old contents.now }
     requires made { AreNamedMade contents.now (line_of line.now) }
     ensures { Judges (line_of line.now) contents.now terms.old result terms.new }

@@ -3,18 +3,21 @@ ghost use Rattle.std.specs.Prelude.{◌≡◌, ◌≤◌, length};
 ghost use Rattle.hol_model.specs.declared.limits.TheConstants.{DEFINITIONS_LIMIT};
 ghost use Rattle.hol_model.specs.Logs.LogLine.{LogRule};
 ghost use Rattle.hol_model.specs.Logs.LogLine.LogLine.{theorem_line};
-ghost use Rattle.hol_model.specs.Logs.LogLine.LogRule.{refl_step, trans_step, mk_comb_step, abs_step, beta_step, assume_step, eq_mp_step, deduct_step, inst_step, inst_type_step, eta_step, select_step, definition_step};
+ghost use Rattle.hol_model.specs.Logs.LogLine.LogRule.{abs_step, inst_step, inst_type_step, definition_step};
 ghost use Rattle.hol_logtext.specs.Lines.{rule_of};
-ghost use Rattle.hol_check_terms.specs.Terms.{TermTable, IsGrown};
-ghost use Rattle.hol_check_rules.specs.State.{state_of, IsContents};
+ghost use Rattle.hol_check_terms.specs.Terms.{TermTable, term_at, IsGrown};
+ghost use Rattle.hol_check_rules.specs.State.{sequent_in, state_of, IsContents, IsFittingTheorem};
 ghost use Rattle.hol_check_rules.specs.Judged.{Judges, IsMadeLine};
 ghost use Rattle.hol_check_lines.specs.Named.{AreRuleMade, IsMadePair};
+ghost use Rattle.hol_check_lines.specs.Rules.{term_rule, term_step, pair_rule, pair_step};
 ghost use Rattle.std.specs.List.{All};
 ghost use Rattle.hol_check_rules.specs.declared.state.Contents as state;
 ghost use Rattle.hol_check_rules.specs.Steps.{Step, IsStep, Takes};
+ghost use Rattle.hol_check_changes.specs.Forming.{IsFitting};
 
+use crate::entry_lines::new_name;
+use crate::judge::Judged;
 use crate::step_pairs::{term_pairs, type_pairs};
-use hol_check_rules::known::is_new_name;
 use hol_check_rules::state::{Addition, Contents, Theorem, is_full, term_at, theorem_at};
 use hol_check_rules::steps::axioms::{eta, select};
 use hol_check_rules::steps::definition::define;
@@ -26,6 +29,23 @@ use hol_logtext::Rule;
 use hol_model::{Cause, Fault, is_constant_name};
 use std::alloc::Global;
 
+/// The rules whose lines name a term.
+#[derive(Clone, Copy)]
+pub(crate) enum TermRule {
+    Refl,
+    Beta,
+    Assume,
+}
+
+/// The rules whose lines name two theorems.
+#[derive(Clone, Copy)]
+pub(crate) enum PairRule {
+    Trans,
+    MkComb,
+    EqMp,
+    Deduct,
+}
+
 /// What a line with a theorem adds, or the first cause that refuses it. Its conditions are tested in the order of their
 /// causes: `number`, `name`, `type`, `rule`, `large`.
 pub(crate) fn judge_step(
@@ -33,24 +53,24 @@ pub(crate) fn judge_step(
     terms: &mut Terms,
     contents: &Contents,
     rule: &Rule<'_>,
-) -> Result<Result<Addition, Cause>, Fault>
+) -> Judged
     requires contents { IsContents terms.old contents.now }
     requires made { AreRuleMade contents.now (rule_of rule.now) }
     ensures { Judges (theorem_line (rule_of rule.now)) contents.now terms.old result terms.new }
 {
     match rule {
-        Rule::Refl(term) => judge_refl(alloc, terms, contents, *term),
-        Rule::Trans(first, second) => judge_trans(alloc, terms, contents, *first, *second),
-        Rule::MkComb(first, second) => judge_mk_comb(alloc, terms, contents, *first, *second),
+        Rule::Refl(term) => judge_term(alloc, terms, contents, TermRule::Refl, *term),
+        Rule::Trans(i, j) => judge_pair(alloc, terms, contents, PairRule::Trans, *i, *j),
+        Rule::MkComb(i, j) => judge_pair(alloc, terms, contents, PairRule::MkComb, *i, *j),
         Rule::Abs(variable, premise) => judge_abs(alloc, terms, contents, *variable, *premise),
-        Rule::Beta(term) => judge_beta(alloc, terms, contents, *term),
-        Rule::Assume(term) => judge_assume(alloc, terms, contents, *term),
-        Rule::EqMp(first, second) => judge_eq_mp(alloc, terms, contents, *first, *second),
-        Rule::Deduct(first, second) => judge_deduct(alloc, terms, contents, *first, *second),
+        Rule::Beta(term) => judge_term(alloc, terms, contents, TermRule::Beta, *term),
+        Rule::Assume(term) => judge_term(alloc, terms, contents, TermRule::Assume, *term),
+        Rule::EqMp(i, j) => judge_pair(alloc, terms, contents, PairRule::EqMp, *i, *j),
+        Rule::Deduct(i, j) => judge_pair(alloc, terms, contents, PairRule::Deduct, *i, *j),
         Rule::Inst(premise, pairs) => judge_inst(alloc, terms, contents, *premise, pairs),
         Rule::InstType(premise, pairs) => judge_inst_type(alloc, terms, contents, *premise, pairs),
-        Rule::Eta => judge_eta(alloc, terms, contents),
-        Rule::Select => judge_select(alloc, terms, contents),
+        Rule::Eta => judged(eta(alloc, terms)),
+        Rule::Select => judged(select(alloc, terms)),
         Rule::Def(name, body) => {
             judge_definition(alloc, terms, contents, name.as_bytes(), *body)
         }
@@ -58,7 +78,7 @@ pub(crate) fn judge_step(
 }
 
 // What a step that was taken adds.
-fn judged(taken: Result<Result<Theorem, Cause>, Fault>) -> Result<Result<Addition, Cause>, Fault>
+fn judged(taken: Result<Result<Theorem, Cause>, Fault>) -> Judged
     ensures { (rule : LogRule) (contents : state.Contents) (earlier now : TermTable) (step : Step) → length contents.entries.items ≤ DEFINITIONS_LIMIT → IsGrown earlier now
         → IsStep (state_of earlier contents) rule step → Takes step taken now.terms → Judges (theorem_line rule) contents earlier result now }
 {
@@ -69,51 +89,76 @@ fn judged(taken: Result<Result<Theorem, Cause>, Fault>) -> Result<Result<Additio
     }
 }
 
-fn judge_refl(
+// A step by a rule over a term.
+fn judge_term(
     alloc: Global,
     terms: &mut Terms,
     contents: &Contents,
+    rule: TermRule,
     term: u32,
-) -> Result<Result<Addition, Cause>, Fault>
+) -> Judged
     requires contents { IsContents terms.old contents.now }
     requires made { IsMadeLine contents.now term }
-    ensures { Judges (theorem_line (refl_step term)) contents.now terms.old result terms.new }
+    ensures { Judges (theorem_line (term_rule rule term)) contents.now terms.old result terms.new }
 {
     match term_at(contents, term) {
-        Some(term) => judged(refl(alloc, terms, term)),
+        Some(term) => judged(take_term(alloc, terms, rule, term)),
         None => Ok(Err(Cause::Number)),
     }
 }
 
-fn judge_trans(
+fn take_term(
+    alloc: Global,
+    terms: &mut Terms,
+    rule: TermRule,
+    term: usize,
+) -> Result<Result<Theorem, Cause>, Fault>
+    requires { IsFitting terms.old.terms term }
+    ensures taken { Takes (term_step rule (term_at terms.old.terms term)) result terms.new.terms }
+    ensures grows { IsGrown terms.old terms.new }
+{
+    match rule {
+        TermRule::Refl => refl(alloc, terms, term),
+        TermRule::Beta => beta(alloc, terms, term),
+        TermRule::Assume => assume(alloc, terms, term),
+    }
+}
+
+// A step by a rule over two theorems.
+fn judge_pair(
     alloc: Global,
     terms: &mut Terms,
     contents: &Contents,
+    rule: PairRule,
     first: u32,
     second: u32,
-) -> Result<Result<Addition, Cause>, Fault>
+) -> Judged
     requires { IsContents terms.old contents.now }
-    ensures { Judges (theorem_line (trans_step first second)) contents.now terms.old result terms.new }
+    ensures { Judges (theorem_line (pair_rule rule first second)) contents.now terms.old result terms.new }
 {
     match (theorem_at(contents, first), theorem_at(contents, second)) {
-        (Some(first), Some(second)) => judged(trans(alloc, terms, first, second)),
+        (Some(first), Some(second)) => judged(take_pair(alloc, terms, rule, first, second)),
         _ => Ok(Err(Cause::Number)),
     }
 }
 
-fn judge_mk_comb(
+fn take_pair(
     alloc: Global,
     terms: &mut Terms,
-    contents: &Contents,
-    first: u32,
-    second: u32,
-) -> Result<Result<Addition, Cause>, Fault>
-    requires { IsContents terms.old contents.now }
-    ensures { Judges (theorem_line (mk_comb_step first second)) contents.now terms.old result terms.new }
+    rule: PairRule,
+    first: &Theorem,
+    second: &Theorem,
+) -> Result<Result<Theorem, Cause>, Fault>
+    requires first { IsFittingTheorem terms.old.terms first.now }
+    requires second { IsFittingTheorem terms.old.terms second.now }
+    ensures taken { Takes (pair_step rule (sequent_in terms.old.terms first.now) (sequent_in terms.old.terms second.now)) result terms.new.terms }
+    ensures grows { IsGrown terms.old terms.new }
 {
-    match (theorem_at(contents, first), theorem_at(contents, second)) {
-        (Some(first), Some(second)) => judged(mk_comb(alloc, terms, first, second)),
-        _ => Ok(Err(Cause::Number)),
+    match rule {
+        PairRule::Trans => trans(alloc, terms, first, second),
+        PairRule::MkComb => mk_comb(alloc, terms, first, second),
+        PairRule::EqMp => eq_mp(alloc, terms, first, second),
+        PairRule::Deduct => deduct(alloc, terms, first, second),
     }
 }
 
@@ -123,7 +168,7 @@ fn judge_abs(
     contents: &Contents,
     variable: u32,
     premise: u32,
-) -> Result<Result<Addition, Cause>, Fault>
+) -> Judged
     requires contents { IsContents terms.old contents.now }
     requires made { IsMadeLine contents.now variable }
     ensures { Judges (theorem_line (abs_step variable premise)) contents.now terms.old result terms.new }
@@ -134,101 +179,13 @@ fn judge_abs(
     }
 }
 
-fn judge_beta(
-    alloc: Global,
-    terms: &mut Terms,
-    contents: &Contents,
-    term: u32,
-) -> Result<Result<Addition, Cause>, Fault>
-    requires contents { IsContents terms.old contents.now }
-    requires made { IsMadeLine contents.now term }
-    ensures { Judges (theorem_line (beta_step term)) contents.now terms.old result terms.new }
-{
-    match term_at(contents, term) {
-        Some(term) => judged(beta(alloc, terms, term)),
-        None => Ok(Err(Cause::Number)),
-    }
-}
-
-fn judge_assume(
-    alloc: Global,
-    terms: &mut Terms,
-    contents: &Contents,
-    term: u32,
-) -> Result<Result<Addition, Cause>, Fault>
-    requires contents { IsContents terms.old contents.now }
-    requires made { IsMadeLine contents.now term }
-    ensures { Judges (theorem_line (assume_step term)) contents.now terms.old result terms.new }
-{
-    match term_at(contents, term) {
-        Some(term) => judged(assume(alloc, terms, term)),
-        None => Ok(Err(Cause::Number)),
-    }
-}
-
-fn judge_eq_mp(
-    alloc: Global,
-    terms: &mut Terms,
-    contents: &Contents,
-    first: u32,
-    second: u32,
-) -> Result<Result<Addition, Cause>, Fault>
-    requires { IsContents terms.old contents.now }
-    ensures { Judges (theorem_line (eq_mp_step first second)) contents.now terms.old result terms.new }
-{
-    match (theorem_at(contents, first), theorem_at(contents, second)) {
-        (Some(first), Some(second)) => judged(eq_mp(alloc, terms, first, second)),
-        _ => Ok(Err(Cause::Number)),
-    }
-}
-
-fn judge_deduct(
-    alloc: Global,
-    terms: &mut Terms,
-    contents: &Contents,
-    first: u32,
-    second: u32,
-) -> Result<Result<Addition, Cause>, Fault>
-    requires { IsContents terms.old contents.now }
-    ensures { Judges (theorem_line (deduct_step first second)) contents.now terms.old result terms.new }
-{
-    match (theorem_at(contents, first), theorem_at(contents, second)) {
-        (Some(first), Some(second)) => judged(deduct(alloc, terms, first, second)),
-        _ => Ok(Err(Cause::Number)),
-    }
-}
-
-fn judge_eta(
-    alloc: Global,
-    terms: &mut Terms,
-    contents: &Contents,
-) -> Result<Result<Addition, Cause>, Fault>
-    requires { IsContents terms.old contents.now }
-    ensures { Judges (theorem_line eta_step) contents.now terms.old result terms.new }
-{
-    let _contents = contents;
-    judged(eta(alloc, terms))
-}
-
-fn judge_select(
-    alloc: Global,
-    terms: &mut Terms,
-    contents: &Contents,
-) -> Result<Result<Addition, Cause>, Fault>
-    requires { IsContents terms.old contents.now }
-    ensures { Judges (theorem_line select_step) contents.now terms.old result terms.new }
-{
-    let _contents = contents;
-    judged(select(alloc, terms))
-}
-
 fn judge_inst(
     alloc: Global,
     terms: &mut Terms,
     contents: &Contents,
     premise: u32,
     pairs: &[(u32, u32)],
-) -> Result<Result<Addition, Cause>, Fault>
+) -> Judged
     requires contents { IsContents terms.old contents.now }
     requires made { All (IsMadePair contents.now) pairs.now }
     ensures { Judges (theorem_line (inst_step premise pairs.now)) contents.now terms.old result terms.new }
@@ -249,7 +206,7 @@ fn judge_inst_type(
     contents: &Contents,
     premise: u32,
     pairs: &[(u32, u32)],
-) -> Result<Result<Addition, Cause>, Fault>
+) -> Judged
     requires { IsContents terms.old contents.now }
     ensures { Judges (theorem_line (inst_type_step premise pairs.now)) contents.now terms.old result terms.new }
 {
@@ -269,7 +226,7 @@ fn judge_definition(
     contents: &Contents,
     name: &[u8],
     body: u32,
-) -> Result<Result<Addition, Cause>, Fault>
+) -> Judged
     requires contents { IsContents terms.old contents.now }
     requires made { IsMadeLine contents.now body }
     ensures { Judges (theorem_line (definition_step name.now body)) contents.now terms.old result terms.new }
@@ -277,13 +234,10 @@ fn judge_definition(
     let Some(body) = term_at(contents, body) else {
         return Ok(Err(Cause::Number));
     };
-    if !is_constant_name(name) {
+    let is_legal = is_constant_name(name);
+    let Some(number) = new_name(alloc, terms, contents, name, is_legal)? else {
         return Ok(Err(Cause::Name));
-    }
-    let number = terms.name(alloc, name)?;
-    if !is_new_name(terms, &contents.known, number) {
-        return Ok(Err(Cause::Name));
-    }
+    };
     let given = match define(alloc, terms, number, body)? {
         Ok(given) => given,
         Err(cause) => return Ok(Err(cause)),

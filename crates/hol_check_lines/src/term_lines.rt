@@ -8,6 +8,7 @@ ghost use Rattle.hol_check_rules.specs.State.{IsContents};
 ghost use Rattle.hol_check_rules.specs.Judged.{Judges};
 ghost use Rattle.hol_check_lines.specs.TermLines.{AnswersTerm};
 
+use crate::judge::Judged;
 use hol_check_changes::forming::{takes, variable};
 use hol_check_rules::known::knows_constant;
 use hol_check_rules::state::{Addition, Contents, type_at, written_at};
@@ -25,7 +26,7 @@ pub(crate) fn judge_variable(
     contents: &Contents,
     name: &[u8],
     ty: u32,
-) -> Result<Result<Addition, Cause>, Fault>
+) -> Judged
     requires { IsContents terms.old contents.now }
     ensures { Judges (variable_line name.now ty) contents.now terms.old result terms.new }
 {
@@ -47,7 +48,7 @@ pub(crate) fn judge_constant(
     contents: &Contents,
     name: &[u8],
     ty: u32,
-) -> Result<Result<Addition, Cause>, Fault>
+) -> Judged
     requires { IsContents terms.old contents.now }
     ensures { Judges (constant_line name.now ty) contents.now terms.old result terms.new }
 {
@@ -72,14 +73,14 @@ pub(crate) fn judge_combination(
     contents: &Contents,
     function: u32,
     argument: u32,
-) -> Result<Result<Addition, Cause>, Fault>
+) -> Judged
     requires { IsContents terms.now contents.now }
     ensures { Judges (combination_line function argument) contents.now terms.now result terms.now }
 {
-    let Some(f) = written_at(contents, function) else {
-        return Ok(Err(Cause::Number));
-    };
-    let Some(a) = written_at(contents, argument) else {
+    let (Some(f), Some(a)) = (
+        written_at(contents, function),
+        written_at(contents, argument),
+    ) else {
         return Ok(Err(Cause::Number));
     };
     if !takes(terms, f.ty, a.ty) {
@@ -95,14 +96,11 @@ pub(crate) fn judge_abstraction(
     contents: &Contents,
     binder: u32,
     body: u32,
-) -> Result<Result<Addition, Cause>, Fault>
+) -> Judged
     requires { IsContents terms.old contents.now }
     ensures { Judges (abstraction_line binder body) contents.now terms.old result terms.new }
 {
-    let Some(v) = written_at(contents, binder) else {
-        return Ok(Err(Cause::Number));
-    };
-    let Some(b) = written_at(contents, body) else {
+    let (Some(v), Some(b)) = (written_at(contents, binder), written_at(contents, body)) else {
         return Ok(Err(Cause::Number));
     };
     match v.shape {
@@ -116,7 +114,7 @@ pub(crate) fn judge_abstraction(
 }
 
 // What a line adds that a term was written for.
-fn judge_written(written: Result<Written, Fault>) -> Result<Result<Addition, Cause>, Fault>
+fn judge_written(written: Result<Written, Fault>) -> Judged
     ensures { (term : NamedTerm) (shape : shape.WrittenShape) (table : TermTable) → IsWrittenAnswer table term shape written → AnswersTerm term shape result table }
 {
     match written {

@@ -3,6 +3,7 @@ ghost use Rattle.hol_model.specs.Logs.LogLine.{type_variable_line, bool_line, fu
 ghost use Rattle.hol_check_rules.specs.State.{IsContents};
 ghost use Rattle.hol_check_rules.specs.Judged.{Judges};
 
+use crate::judge::Judged;
 use hol_check_rules::known::is_declared;
 use hol_check_rules::state::{Addition, Contents, is_of_first_version, type_at};
 use hol_check_terms::terms::Terms;
@@ -15,7 +16,7 @@ pub(crate) fn judge_type_variable(
     terms: &mut Terms,
     contents: &Contents,
     name: &[u8],
-) -> Result<Result<Addition, Cause>, Fault>
+) -> Judged
     requires { IsContents terms.old contents.now }
     ensures { Judges (type_variable_line name.now) contents.now terms.old result terms.new }
 {
@@ -27,10 +28,7 @@ pub(crate) fn judge_type_variable(
 }
 
 /// The type of formulas, which is never refused.
-pub(crate) fn judge_bool(
-    terms: &mut Terms,
-    contents: &Contents,
-) -> Result<Result<Addition, Cause>, Fault>
+pub(crate) fn judge_bool(terms: &mut Terms, contents: &Contents) -> Judged
     requires { IsContents terms.old contents.now }
     ensures { Judges bool_line contents.now terms.old result terms.new }
 {
@@ -45,14 +43,11 @@ pub(crate) fn judge_function_type(
     contents: &Contents,
     domain: u32,
     codomain: u32,
-) -> Result<Result<Addition, Cause>, Fault>
+) -> Judged
     requires { IsContents terms.old contents.now }
     ensures { Judges (function_type_line domain codomain) contents.now terms.old result terms.new }
 {
-    let Some(a) = type_at(contents, domain) else {
-        return Ok(Err(Cause::Number));
-    };
-    let Some(b) = type_at(contents, codomain) else {
+    let (Some(a), Some(b)) = (type_at(contents, domain), type_at(contents, codomain)) else {
         return Ok(Err(Cause::Number));
     };
     match terms.function_type(a, b) {
@@ -69,7 +64,7 @@ pub(crate) fn judge_declared_type(
     terms: &mut Terms,
     contents: &Contents,
     name: &[u8],
-) -> Result<Result<Addition, Cause>, Fault>
+) -> Judged
     requires { IsContents terms.old contents.now }
     ensures { Judges (declared_type_line name.now) contents.now terms.old result terms.new }
 {
