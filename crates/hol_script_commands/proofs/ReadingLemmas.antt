@@ -204,9 +204,9 @@ pub no-tokens : (tokens : List TokenHere) → true ≡ (length tokens == 0) → 
 no-tokens [] empty = refl
 no-tokens (token ∷ tokens) empty = absurd (let none : length (token ∷ tokens) ≡ 0 = eqb-true (length (token ∷ tokens)) 0 (sym empty) in omega arith)
 
-pub none-below : (tokens : List TokenHere) → length tokens < 1 → tokens_of tokens ≡ []
-none-below [] less = refl
-none-below (token ∷ tokens) less = absurd (omega arith)
+pub some-tokens : (tokens : List TokenHere) → false ≡ (length tokens == 0) → 1 ≤ length tokens
+some-tokens [] some = absurd (let none : false ≡ true = some in cc)
+some-tokens (token ∷ tokens) some = omega arith
 
 pub some-left : (tokens : List TokenHere) → 1 ≤ length tokens → tokens_of tokens ≢ []
 some-left [] more same = omega arith

@@ -99,10 +99,7 @@ fn parse_inst<'a>(alloc: Global, tokens: &'a [Token<'a>]) -> Result<Rule<'a>, Re
     ensures { ParsesArguments result (codes "INST") (tokens_of tokens.now) }
 {
     let (pairs, name) = parse_pairs(alloc, tokens)?;
-    match parse_term_pairs(alloc, &pairs) {
-        Ok(pairs) => Ok(Rule::Inst(pairs, name)),
-        Err(error) => Err(error),
-    }
+    Ok(Rule::Inst(parse_term_pairs(alloc, &pairs)?, name))
 }
 
 // Pairs of a quoted type and a quoted type variable, and the name of a theorem.
@@ -111,10 +108,7 @@ fn parse_inst_type<'a>(alloc: Global, tokens: &'a [Token<'a>]) -> Result<Rule<'a
     ensures { ParsesArguments result (codes "INST_TYPE") (tokens_of tokens.now) }
 {
     let (pairs, name) = parse_pairs(alloc, tokens)?;
-    match parse_type_pairs(alloc, &pairs) {
-        Ok(pairs) => Ok(Rule::InstType(pairs, name)),
-        Err(error) => Err(error),
-    }
+    Ok(Rule::InstType(parse_type_pairs(alloc, &pairs)?, name))
 }
 
 // What a rule of this word has behind it.
@@ -153,10 +147,7 @@ fn parse_rule<'a>(alloc: Global, tokens: &'a [Token<'a>]) -> Result<Rule<'a>, Re
 fn parse_tautology<'a>(alloc: Global, tokens: &'a [Token<'a>]) -> Result<Asked<'a>, ReadError>
     ensures { ParsesTautology result (tokens_of tokens.now) }
 {
-    match parse_only_quote(alloc, tokens) {
-        Ok(steps) => Ok(Asked::Tautology(steps)),
-        Err(error) => Err(error),
-    }
+    Ok(Asked::Tautology(parse_only_quote(alloc, tokens)?))
 }
 
 // A conversion, a quoted term and nothing else, for CONV.
@@ -164,10 +155,8 @@ fn parse_converted<'a>(alloc: Global, tokens: &'a [Token<'a>]) -> Result<Asked<'
     requires { AreTokens (tokens_of tokens.now) }
     ensures { ParsesConverted result (tokens_of tokens.now) }
 {
-    match parse_conversion_and_quote(alloc, tokens) {
-        Ok((conversion, steps)) => Ok(Asked::Conversion(conversion, steps)),
-        Err(error) => Err(error),
-    }
+    let (conversion, steps) = parse_conversion_and_quote(alloc, tokens)?;
+    Ok(Asked::Conversion(conversion, steps))
 }
 
 // A rule, TAUT or CONV with its arguments.
@@ -184,10 +173,7 @@ fn parse_asked<'a>(alloc: Global, tokens: &'a [Token<'a>]) -> Result<Asked<'a>, 
     if word == "CONV" {
         return parse_converted(alloc, arguments);
     }
-    match parse_rule(alloc, tokens) {
-        Ok(rule) => Ok(Asked::Rule(rule)),
-        Err(error) => Err(error),
-    }
+    Ok(Asked::Rule(parse_rule(alloc, tokens)?))
 }
 
 // The type behind a colon and nothing else.
@@ -211,10 +197,7 @@ fn parse_thm<'a>(
     let Some(asked) = take_mark(tokens, Symbol::Equal) else {
         return Err(ReadError::Syntax);
     };
-    match parse_asked(alloc, asked) {
-        Ok(asked) => Ok(Command::Thm(name, asked)),
-        Err(error) => Err(error),
-    }
+    Ok(Command::Thm(name, parse_asked(alloc, asked)?))
 }
 
 fn parse_show<'a>(name: &'a str, tokens: &'a [Token<'a>]) -> Result<Command<'a>, ReadError>
@@ -233,10 +216,7 @@ fn parse_var<'a>(
 ) -> Result<Command<'a>, ReadError>
     ensures { ParsesBody result NamingKind.Var name.now (tokens_of tokens.now) }
 {
-    match parse_typing(alloc, tokens) {
-        Ok(ty) => Ok(Command::Var(name, ty)),
-        Err(error) => Err(error),
-    }
+    Ok(Command::Var(name, parse_typing(alloc, tokens)?))
 }
 
 fn parse_def<'a>(
@@ -249,10 +229,7 @@ fn parse_def<'a>(
     let Some(quote) = take_mark(tokens, Symbol::Equal) else {
         return Err(ReadError::Syntax);
     };
-    match parse_only_quote(alloc, quote) {
-        Ok(steps) => Ok(Command::Def(name, steps)),
-        Err(error) => Err(error),
-    }
+    Ok(Command::Def(name, parse_only_quote(alloc, quote)?))
 }
 
 fn parse_newtype<'a>(name: &'a str, tokens: &'a [Token<'a>]) -> Result<Command<'a>, ReadError>
@@ -271,10 +248,7 @@ fn parse_newconst<'a>(
 ) -> Result<Command<'a>, ReadError>
     ensures { ParsesBody result NamingKind.NewConst name.now (tokens_of tokens.now) }
 {
-    match parse_typing(alloc, tokens) {
-        Ok(ty) => Ok(Command::NewConst(name, ty)),
-        Err(error) => Err(error),
-    }
+    Ok(Command::NewConst(name, parse_typing(alloc, tokens)?))
 }
 
 fn parse_save<'a>(name: &'a str, tokens: &'a [Token<'a>]) -> Result<Command<'a>, ReadError>

@@ -46,10 +46,7 @@ pub fn goal_kind(word: &str) -> Option<GoalKind>
 fn parse_goal<'a>(alloc: Global, tokens: &'a [Token<'a>]) -> Result<Command<'a>, ReadError>
     ensures { ParsesBehind result (OfGoals GoalKind.Goal) (tokens_of tokens.now) }
 {
-    match parse_only_quote(alloc, tokens) {
-        Ok(steps) => Ok(Command::Goal(steps)),
-        Err(error) => Err(error),
-    }
+    Ok(Command::Goal(parse_only_quote(alloc, tokens)?))
 }
 
 // A refiner expression and nothing else.
@@ -57,10 +54,7 @@ fn parse_expand<'a>(alloc: Global, tokens: &'a [Token<'a>]) -> Result<Command<'a
     requires { AreTokens (tokens_of tokens.now) }
     ensures { ParsesBehind result (OfGoals GoalKind.Expand) (tokens_of tokens.now) }
 {
-    match tactic_of(alloc, tokens) {
-        Ok(tactic) => Ok(Command::Expand(tactic)),
-        Err(error) => Err(error),
-    }
+    Ok(Command::Expand(tactic_of(alloc, tokens)?))
 }
 
 fn parse_back<'a>(tokens: &'a [Token<'a>]) -> Result<Command<'a>, ReadError>

@@ -79,10 +79,8 @@ fn parse_term_pair<'a>(alloc: Global, pair: &QuotedPair<'a>) -> Result<TermPair<
     ensures { ParsesTermPair result (parts_of pair.now) }
 {
     let new = parse_term(alloc, pair.new)?;
-    match parse_term(alloc, pair.old) {
-        Ok(old) => Ok(TermPair { new, old }),
-        Err(error) => Err(error),
-    }
+    let old = parse_term(alloc, pair.old)?;
+    Ok(TermPair { new, old })
 }
 
 /// The terms of pairs.
@@ -123,10 +121,8 @@ fn parse_type_pair<'a>(alloc: Global, pair: &QuotedPair<'a>) -> Result<TypePair<
     let Some(old) = type_variable(pair.old) else {
         return Err(ReadError::Syntax);
     };
-    match parse_type(alloc, pair.new) {
-        Ok(new) => Ok(TypePair { new, old }),
-        Err(error) => Err(error),
-    }
+    let new = parse_type(alloc, pair.new)?;
+    Ok(TypePair { new, old })
 }
 
 /// The types and the type variables of pairs.

@@ -19,10 +19,7 @@ fn parse_quote<'a>(
     let Some((inner, rest)) = take_quote(tokens) else {
         return Err(ReadError::Syntax);
     };
-    match parse_term(alloc, inner) {
-        Ok(steps) => Ok((steps, rest)),
-        Err(error) => Err(error),
-    }
+    Ok((parse_term(alloc, inner)?, rest))
 }
 
 // Takes so many quoted terms at the front, and answers what follows them.
@@ -62,11 +59,11 @@ pub fn parse_only_quote<'a>(
 ) -> Result<Vec<TermStep<'a>>, ReadError>
     ensures { ParsesOnlyQuote result (tokens_of tokens.now) }
 {
-    match parse_quote(alloc, tokens) {
-        Ok((steps, [])) => Ok(steps),
-        Ok(_) => Err(ReadError::Syntax),
-        Err(error) => Err(error),
+    let (steps, rest) = parse_quote(alloc, tokens)?;
+    if !rest.is_empty() {
+        return Err(ReadError::Syntax);
     }
+    Ok(steps)
 }
 
 /// A conversion, a quoted term and nothing else.
@@ -78,8 +75,6 @@ pub fn parse_conversion_and_quote<'a>(
     ensures { ParsesConversion result (tokens_of tokens.now) }
 {
     let (conversion, count) = conversion_of(alloc, tokens)?;
-    match parse_only_quote(alloc, &tokens[count..]) {
-        Ok(steps) => Ok((conversion, steps)),
-        Err(error) => Err(error),
-    }
+    let steps = parse_only_quote(alloc, &tokens[count..])?;
+    Ok((conversion, steps))
 }

@@ -138,8 +138,6 @@ pub(crate) fn parse_named<'a>(
     ensures { ParsesArguments result (form_of rule).word (tokens_of tokens.now) }
 {
     let (terms, rest) = parse_quotes(alloc, rule.terms(), tokens)?;
-    match only_names(alloc, rule.theorems(), rest) {
-        Ok(names) => Ok(Rule::Named(rule, terms, names)),
-        Err(error) => Err(error),
-    }
+    let names = only_names(alloc, rule.theorems(), rest)?;
+    Ok(Rule::Named(rule, terms, names))
 }

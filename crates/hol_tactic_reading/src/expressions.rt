@@ -20,33 +20,20 @@ fn read_expression(
     ensures { ReadsExpression (scope_of scope.now) tac.now result }
 {
     match tac {
-        Tac::Leaf(leaf) => match read_leaf(alloc, scope, leaf) {
-            Ok(leaf) => Ok(Tac::Leaf(leaf)),
-            Err(fault) => Err(fault),
-        },
+        Tac::Leaf(leaf) => Ok(Tac::Leaf(read_leaf(alloc, scope, leaf)?)),
         Tac::Host(name) => Ok(Tac::Host(name.clone()?)),
         Tac::Chain(first, links) => {
             let first = read_expression(alloc, scope, first)?;
-            match read_links(alloc, scope, links) {
-                Ok(links) => Tac::chain(alloc, first, links),
-                Err(fault) => Err(fault),
-            }
+            let links = read_links(alloc, scope, links)?;
+            Tac::chain(alloc, first, links)
         }
         Tac::OrElse(first, others) => {
             let first = read_expression(alloc, scope, first)?;
-            match read_each(alloc, scope, others) {
-                Ok(others) => Tac::orelse(alloc, first, others),
-                Err(fault) => Err(fault),
-            }
+            let others = read_each(alloc, scope, others)?;
+            Tac::orelse(alloc, first, others)
         }
-        Tac::Repeat(inner) => match read_expression(alloc, scope, inner) {
-            Ok(inner) => Tac::repeat(alloc, inner),
-            Err(fault) => Err(fault),
-        },
-        Tac::Try(inner) => match read_expression(alloc, scope, inner) {
-            Ok(inner) => Tac::try_tac(alloc, inner),
-            Err(fault) => Err(fault),
-        },
+        Tac::Repeat(inner) => Tac::repeat(alloc, read_expression(alloc, scope, inner)?),
+        Tac::Try(inner) => Tac::try_tac(alloc, read_expression(alloc, scope, inner)?),
     }
 }
 
@@ -77,14 +64,8 @@ fn read_link(
     ensures { ReadsLink (scope_of scope.now) link.now result }
 {
     match link {
-        Link::Then(tac) => match read_expression(alloc, scope, tac) {
-            Ok(tac) => Ok(Link::Then(tac)),
-            Err(fault) => Err(fault),
-        },
-        Link::Thenl(tacs) => match read_each(alloc, scope, tacs) {
-            Ok(tacs) => Ok(Link::Thenl(tacs)),
-            Err(fault) => Err(fault),
-        },
+        Link::Then(tac) => Ok(Link::Then(read_expression(alloc, scope, tac)?)),
+        Link::Thenl(tacs) => Ok(Link::Thenl(read_each(alloc, scope, tacs)?)),
     }
 }
 

@@ -14,15 +14,17 @@ returns-in_err-pairs c =
     rw (p.1, p.2)
     (inst-refused c.in_err-pairs.field-0.0 (tokens_of c.args.tokens.now) c.in_err-pairs.ensures)
 
-pub returns-in-Ok : goal.returns-in-Ok
-returns-in-Ok c =
-    let list = c.in_ok-pairs.ensures in
-    let read = c.in-Ok.ensures in
-    let same = read.2 ∙ ap (map parts_of) c.deref.ensures.value in
-    (by_inst read.0 c.in_ok-pairs.name.now, read.1, refl, list.1 ∙ ap (λ (pairs : List Parts). list_tokens pairs (Name c.in_ok-pairs.name.now ∷ [])) (sym same), (read.3, refl))
-
 pub returns : goal.returns
 returns c =
     let list = c.in_ok-pairs.ensures in
-    inst-unread c.in-Err.error (tokens_of c.args.tokens.now) (map parts_of c.in_ok-pairs.pairs.items) c.in_ok-pairs.name.now list.0 list.1
-    (subst (λ (pairs : List QuotedPair). ParsesTermPairs (Err c.in-Err.error) (map parts_of pairs)) c.deref.ensures.value c.in-Err.ensures)
+    let read = c.in_ok-parse_term_pairs.ensures in
+    let same = read.2 ∙ ap (map parts_of) c.deref.ensures.value in
+    (by_inst read.0 c.in_ok-pairs.name.now, read.1, refl, list.1 ∙ ap (λ (pairs : List Parts). list_tokens pairs (Name c.in_ok-pairs.name.now ∷ [])) (sym same), (read.3, refl))
+
+pub returns-in_err-parse_term_pairs : goal.returns-in_err-parse_term_pairs
+returns-in_err-parse_term_pairs c =
+    let list = c.in_ok-pairs.ensures in
+    let p = err_from_is_err_and c.from_residual-in_err-parse_term_pairs.result c.from_residual-in_err-parse_term_pairs.ensures.1 in
+    rw (p.1, p.2)
+    (inst-unread c.in_err-parse_term_pairs.field-0.0 (tokens_of c.args.tokens.now) (map parts_of c.in_ok-pairs.pairs.items) c.in_ok-pairs.name.now list.0 list.1
+    (subst (λ (pairs : List QuotedPair). ParsesTermPairs (Err c.in_err-parse_term_pairs.field-0.0) (map parts_of pairs)) c.deref.ensures.value c.in_err-parse_term_pairs.ensures))

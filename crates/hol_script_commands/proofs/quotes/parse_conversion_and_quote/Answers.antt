@@ -8,6 +8,6 @@ returns-in_err-conversion c =
     rw (p.1, p.2)
     (no-conversion c.in_err-conversion.field-0.0 c.args.tokens.now c.in_err-conversion.ensures)
 
-pub returns-in-Ok : goal.returns-in-Ok
-returns-in-Ok c =
-    conversion-read c.in_ok-conversion.conversion c.in-Ok.steps c.args.tokens.now c.in_ok-conversion.count c.in_ok-conversion.ensures.1 c.in-Ok.ensures
+pub returns : goal.returns
+returns c =
+    conversion-read c.in_ok-conversion.conversion c.in_ok-steps.steps c.args.tokens.now c.in_ok-conversion.count c.in_ok-conversion.ensures.1 c.in_ok-steps.ensures

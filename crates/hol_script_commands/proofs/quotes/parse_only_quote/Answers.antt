@@ -1,16 +1,16 @@
 use Rattle.std.proofs.Common.{ap, ◌∙◌}
 use Rattle.hol_model_sessions.specs.Commands.{quote_tokens}
 use Rattle.hol_syntax_grammar.specs.Views.{tokens_of}
-use Rattle.hol_script_commands.proofs.ReadingLemmas.{none-below, more-behind}
+use Rattle.hol_script_commands.proofs.ReadingLemmas.{no-tokens, some-tokens, more-behind}
 use Rattle.hol_script_commands.proofs.quotes.parse_only_quote.Goals as goal
 
-pub returns-in-Ok-default-empty : goal.returns-in-Ok-default-empty
-returns-in-Ok-default-empty c =
-    let read = c.in-Ok-default-empty.ensures in
-    let empty = none-below c.in-Ok-default-empty.field-0-1.now c.in-Ok-default-empty.len_below in
-    (read.0, read.1, read.2 ∙ ap (quote_tokens read.0) empty, read.3)
+pub returns-then-not-is_empty : goal.returns-then-not-is_empty
+returns-then-not-is_empty c =
+    let read = c.in_ok-steps.ensures in
+    let rest = c.in_ok-steps.rest.now in
+    more-behind (tokens_of c.args.tokens.now) rest read.0 read.1 read.2 (some-tokens rest c.if-not-is_empty.ensures)
 
-pub returns-in-Ok : goal.returns-in-Ok
-returns-in-Ok c =
-    let read = c.in-Ok.ensures in
-    more-behind (tokens_of c.args.tokens.now) c.in-Ok.field-0.1.now read.0 read.1 read.2 c.in-Ok.len_at_least
+pub returns : goal.returns
+returns c =
+    let read = c.in_ok-steps.ensures in
+    (read.0, read.1, read.2 ∙ ap (quote_tokens read.0) (no-tokens c.in_ok-steps.rest.now c.if-not-is_empty.ensures), read.3)

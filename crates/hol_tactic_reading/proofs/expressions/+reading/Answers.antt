@@ -1,4 +1,5 @@
 use Rattle.std.proofs.Common.{◌∙◌, Ok, arith, subst}
+use Rattle.std.proofs.lemmas.Result.{err_from_is_err_and}
 use Rattle.hol_syntax.specs.Scope.{scope_of}
 use Rattle.hol_tactic_exprs.specs.declared.tac.Link.{Thenl}
 use Rattle.hol_tactic_exprs.specs.Expressions.{tactic_of, link_of}
@@ -10,43 +11,49 @@ use Rattle.hol_tactic_reading.proofs.expressions.«+reading».Goals as goal
 
 -- ---- chains
 
-pub read_expression-returns-in-Ok-read_links : goal.read_expression-returns-in-Ok-read_links
-read_expression-returns-in-Ok-read_links t c = λ outcome read.
-    made-in-turn tactic_of (tactic_of c.in_ok-first-in-Chain.first) (links_made c.in-Ok-read_links.links) c.chain.result outcome
+pub read_expression-returns-in_ok-links-in-Chain : goal.read_expression-returns-in_ok-links-in-Chain
+read_expression-returns-in_ok-links-in-Chain t c = λ outcome read.
+    made-in-turn tactic_of (tactic_of c.in_ok-first-in-Chain.first) (links_made c.in_ok-links-in-Chain.links) c.chain.result outcome
     (chain-in-turn (scope_of c.args.scope.now) c.in-Chain.first c.in-Chain.links outcome c.in-Chain.is c.deref.ensures c.deref-in-Chain.ensures.value read)
-    c.in_ok-first-in-Chain.ensures c.in-Ok-read_links.ensures c.chain.ensures.ok c.chain.ensures.err
+    c.in_ok-first-in-Chain.ensures c.in_ok-links-in-Chain.ensures c.chain.ensures.ok c.chain.ensures.err
 
-pub read_expression-returns-in-Err-read_links : goal.read_expression-returns-in-Err-read_links
-read_expression-returns-in-Err-read_links t c = λ outcome read.
-    refused-second (tactic_of c.in_ok-first-in-Chain.first) c.in-Err-read_links.fault outcome
+pub read_expression-returns-in_err-links-in-Chain : goal.read_expression-returns-in_err-links-in-Chain
+read_expression-returns-in_err-links-in-Chain t c =
+    let p = err_from_is_err_and c.from_residual-in_err-links-in-Chain.result c.from_residual-in_err-links-in-Chain.ensures.1 in
+    rw (p.1, p.2) (λ outcome read.
+    refused-second (tactic_of c.in_ok-first-in-Chain.first) c.in_err-links-in-Chain.field-0.0 outcome
     (chain-in-turn (scope_of c.args.scope.now) c.in-Chain.first c.in-Chain.links outcome c.in-Chain.is c.deref.ensures c.deref-in-Chain.ensures.value read)
-    c.in_ok-first-in-Chain.ensures c.in-Err-read_links.ensures
+    c.in_ok-first-in-Chain.ensures c.in_err-links-in-Chain.ensures)
 
-pub read_expression-returns-in-Ok-read_each : goal.read_expression-returns-in-Ok-read_each
-read_expression-returns-in-Ok-read_each t c = λ outcome read.
-    made-in-turn tactic_of (tactic_of c.in_ok-first-in-OrElse.first) (tactics_made c.in-Ok-read_each.others) c.orelse.result outcome
+pub read_expression-returns-in_ok-others-in-OrElse : goal.read_expression-returns-in_ok-others-in-OrElse
+read_expression-returns-in_ok-others-in-OrElse t c = λ outcome read.
+    made-in-turn tactic_of (tactic_of c.in_ok-first-in-OrElse.first) (tactics_made c.in_ok-others-in-OrElse.others) c.orelse.result outcome
     (orelse-in-turn (scope_of c.args.scope.now) c.in-OrElse.first c.in-OrElse.others outcome c.in-OrElse.is c.deref-in-OrElse.ensures c.deref-in-OrElse-2.ensures.value read)
-    c.in_ok-first-in-OrElse.ensures c.in-Ok-read_each.ensures c.orelse.ensures.ok c.orelse.ensures.err
+    c.in_ok-first-in-OrElse.ensures c.in_ok-others-in-OrElse.ensures c.orelse.ensures.ok c.orelse.ensures.err
 
-pub read_expression-returns-in-Err-read_each : goal.read_expression-returns-in-Err-read_each
-read_expression-returns-in-Err-read_each t c = λ outcome read.
-    refused-second (tactic_of c.in_ok-first-in-OrElse.first) c.in-Err-read_each.fault outcome
+pub read_expression-returns-in_err-others-in-OrElse : goal.read_expression-returns-in_err-others-in-OrElse
+read_expression-returns-in_err-others-in-OrElse t c =
+    let p = err_from_is_err_and c.from_residual-in_err-others-in-OrElse.result c.from_residual-in_err-others-in-OrElse.ensures.1 in
+    rw (p.1, p.2) (λ outcome read.
+    refused-second (tactic_of c.in_ok-first-in-OrElse.first) c.in_err-others-in-OrElse.field-0.0 outcome
     (orelse-in-turn (scope_of c.args.scope.now) c.in-OrElse.first c.in-OrElse.others outcome c.in-OrElse.is c.deref-in-OrElse.ensures c.deref-in-OrElse-2.ensures.value read)
-    c.in_ok-first-in-OrElse.ensures c.in-Err-read_each.ensures
+    c.in_ok-first-in-OrElse.ensures c.in_err-others-in-OrElse.ensures)
 
 -- ---- THENL
 
-pub read_link-returns-in-Ok-read_each : goal.read_link-returns-in-Ok-read_each
-read_link-returns-in-Ok-read_each t c = λ outcome read.
-    made-of-one link_of (tactics_made c.in-Ok-read_each.tacs) (Ok (Thenl c.in-Ok-read_each.tacs)) outcome
+pub read_link-returns-in_ok-read_each-in-Thenl : goal.read_link-returns-in_ok-read_each-in-Thenl
+read_link-returns-in_ok-read_each-in-Thenl t c = λ outcome read.
+    made-of-one link_of (tactics_made c.in_ok-read_each-in-Thenl.field-0) (Ok (Thenl c.in_ok-read_each-in-Thenl.field-0)) outcome
     (thenl-of-one (scope_of c.args.scope.now) c.in-Thenl.tacs outcome c.in-Thenl.is c.deref.ensures.value read)
-    c.in-Ok-read_each.ensures (thenl_means c.in-Ok-read_each.tacs) tt
+    c.in_ok-read_each-in-Thenl.ensures (thenl_means c.in_ok-read_each-in-Thenl.field-0) tt
 
-pub read_link-returns-in-Err-read_each : goal.read_link-returns-in-Err-read_each
-read_link-returns-in-Err-read_each t c = λ outcome read.
-    refused-of-one c.in-Err-read_each.fault outcome
+pub read_link-returns-in_err-read_each-in-Thenl : goal.read_link-returns-in_err-read_each-in-Thenl
+read_link-returns-in_err-read_each-in-Thenl t c =
+    let p = err_from_is_err_and c.from_residual-in_err-read_each-in-Thenl.result c.from_residual-in_err-read_each-in-Thenl.ensures.1 in
+    rw (p.1, p.2) (λ outcome read.
+    refused-of-one c.in_err-read_each-in-Thenl.field-0.0 outcome
     (thenl-of-one (scope_of c.args.scope.now) c.in-Thenl.tacs outcome c.in-Thenl.is c.deref.ensures.value read)
-    c.in-Err-read_each.ensures
+    c.in_err-read_each-in-Thenl.ensures)
 
 -- ---- lists
 
