@@ -2,14 +2,14 @@
 
 use crate::rebuilding::rebuilt;
 use crate::reducing::reduce;
-use crate::splitting::split;
+use crate::splitting::{add_part, spliced, split};
 use hol_host::HostFail;
-use hol_just::{Goal, Just, Step, splice};
+use hol_just::{Goal, Step};
 use hol_tactics_forms::{
     Derivation, assume, ccontr, falsity, goal_frees, is_constant, mk_neg, named, refute, to_none,
     truth,
 };
-use hol_tactics_search::{COMPARISONS, Problem, Symbol, add_equality, find_refutation};
+use hol_tactics_search::{COMPARISONS, Given, Problem, Symbol, add_equality, find_refutation};
 use std::alloc::Global;
 
 /// ASM_MESON_TAC: no subgoal, where the goal follows from its assumptions by first-order reasoning with equality. Theorems are brought
@@ -19,66 +19,65 @@ use std::alloc::Global;
 /// over 1 to 59 inferences, and 30,000,000 comparisons for all goals. Terms are first order: what is applied or abstracted is matched as
 /// it stands. Where nothing is found it fails.
 pub fn meson(alloc: Global, goal: &Goal) -> Result<Step, HostFail> {
-    let Step { goals, just } = reduce(alloc, goal)?;
+    let reduced = reduce(alloc, goal)?;
     let mut parts = Vec::new(alloc);
-    for goal in &goals {
-        parts.push(proved(alloc, goal)?)?;
+    for goal in &reduced.goals {
+        add_part(alloc, proved(alloc, goal), &mut parts)?;
     }
-    to_spliced(alloc, &just, &parts)
+    to_none(alloc, spliced(alloc, &reduced, &parts))
 }
 
-// The step of a goal without redexes to none.
-fn proved(alloc: Global, goal: &Goal) -> Result<Step, HostFail> {
-    let Step { goals, just } = split(alloc, goal)?;
+// The justification of a goal without redexes.
+fn proved(alloc: Global, goal: &Goal) -> Derivation {
+    let split = split(alloc, goal)?;
     let mut parts = Vec::new(alloc);
     let mut comparisons = COMPARISONS;
-    for goal in &goals {
-        let just = refuted(alloc, goal, &mut comparisons);
-        parts.push(to_none(alloc, just)?)?;
+    for goal in &split.goals {
+        add_part(alloc, refuted(alloc, goal, &mut comparisons), &mut parts)?;
     }
-    to_spliced(alloc, &just, &parts)
-}
-
-// The step to none by these parts.
-fn to_spliced(alloc: Global, just: &Just, parts: &[Step]) -> Result<Step, HostFail> {
-    let just = splice(alloc, just, parts)?;
-    to_none(alloc, Ok(just))
+    spliced(alloc, &split, &parts)
 }
 
 // The justification of a goal without subgoals.
 fn refuted(alloc: Global, goal: &Goal, comparisons: &mut u32) -> Derivation {
     let mut problem = Problem::new(alloc);
-    give_goal(alloc, &mut problem, goal)?;
-    let falsity = falsity_of(alloc, &problem, goal, comparisons);
+    let falsity = falsity_of(alloc, goal, &mut problem, comparisons);
     ccontr(alloc, &goal.concl, falsity)
+}
+
+// `F`, from the assumptions and the denied conclusion.
+fn falsity_of(
+    alloc: Global,
+    goal: &Goal,
+    problem: &mut Problem,
+    comparisons: &mut u32,
+) -> Derivation {
+    give_goal(alloc, problem, goal)?;
+    let avoid = goal_frees(alloc, goal)?;
+    let found = find_refutation(alloc, problem, comparisons)?;
+    rebuilt(alloc, problem, &found, avoid)
 }
 
 // Adds the assumptions and the denied conclusion, with what holds of equality, of `T` and of `F`.
 fn give_goal(alloc: Global, problem: &mut Problem, goal: &Goal) -> Result<(), HostFail> {
     for assumption in &goal.asms {
-        problem.give(alloc, assumption.copy(alloc)?, None)?;
+        problem.give(alloc, Given::assumed(assumption.copy(alloc)))?;
     }
-    problem.give(alloc, mk_neg(alloc, &goal.concl)?, None)?;
+    problem.give(alloc, Given::assumed(mk_neg(alloc, &goal.concl)))?;
     add_equality(alloc, problem)?;
     add_constants(alloc, problem)
-}
-
-// `F`, from the assumptions and the denied conclusion.
-fn falsity_of(alloc: Global, problem: &Problem, goal: &Goal, comparisons: &mut u32) -> Derivation {
-    let found = find_refutation(alloc, problem, comparisons)?;
-    rebuilt(alloc, problem, &found, goal_frees(alloc, goal)?)
 }
 
 // Adds that `T` holds and `F` does not, where they occur.
 fn add_constants(alloc: Global, problem: &mut Problem) -> Result<(), HostFail> {
     if occurs(problem, "T") {
-        let proof = named(alloc, "TRUTH")?;
-        problem.give(alloc, truth(alloc)?, Some(proof))?;
+        let proof = named(alloc, "TRUTH");
+        problem.give(alloc, Given::proved(truth(alloc), proof))?;
     }
     if occurs(problem, "F") {
         let falsity = falsity(alloc)?;
-        let proof = refute(alloc, &falsity, assume(alloc, &falsity))?;
-        problem.give(alloc, mk_neg(alloc, &falsity)?, Some(proof))?;
+        let proof = refute(alloc, &falsity, assume(alloc, &falsity));
+        problem.give(alloc, Given::proved(mk_neg(alloc, &falsity), proof))?;
     }
     Ok(())
 }

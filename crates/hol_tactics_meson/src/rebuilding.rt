@@ -1,5 +1,6 @@
 // A refutation as a justification, by a stack of what is begun.
 
+use crate::splitting::again;
 use crate::values::{ClauseInstance, Values};
 use hol_host::HostFail;
 use hol_just::Just;
@@ -59,12 +60,9 @@ pub(crate) fn rebuilt<'a>(
 ) -> Derivation {
     let witnesses = Witnesses::new(alloc, avoid);
     let mut rebuilding = Rebuilding::new(alloc, problem, found, witnesses);
-    let falsity = rebuilding.run(alloc)?;
-    with_proofs(
-        alloc,
-        problem,
-        rebuilding.values.witnesses.discharged(alloc, falsity),
-    )
+    let falsity = rebuilding.run(alloc);
+    let just = rebuilding.values.witnesses.discharged(alloc, falsity);
+    with_proofs(alloc, problem, just)
 }
 
 // The justification without the formulas that are given with a proof.
@@ -72,11 +70,20 @@ fn with_proofs(alloc: Global, problem: &Problem, of: Derivation) -> Derivation {
     let mut just = of;
     for given in &problem.givens {
         if let Some(proof) = &given.proof {
-            let proof = proof.copy(alloc)?;
-            just = prove_hyp(alloc, Ok(proof), just);
+            just = prove_hyp(alloc, again(alloc, proof), just);
         }
     }
     just
+}
+
+// Follows a fact.
+fn follow(fact: Result<Fact, HostFail>, route: usize) -> Result<Turn, HostFail> {
+    Ok(Turn::Follow(fact?, route))
+}
+
+// Goes on behind a proof of `F`.
+fn refuted(falsity: Derivation) -> Result<Turn, HostFail> {
+    Ok(Turn::Refuted(falsity?))
 }
 
 impl<'a> Rebuilding<'a> {
@@ -102,12 +109,12 @@ impl<'a> Rebuilding<'a> {
             clause: self.found.start,
             base: 0,
         };
-        let mut turn = self.begin(alloc, start, None)?;
+        let mut turn = self.begin(alloc, start, None);
         for _ in 0..TURNS {
-            turn = match turn {
-                Turn::Follow(fact, route) => self.follow(alloc, fact, route)?,
+            turn = match turn? {
+                Turn::Follow(fact, route) => self.follow(alloc, fact, route),
                 Turn::Refuted(falsity) => match self.frames.pop() {
-                    Some(frame) => self.resume(alloc, frame, falsity)?,
+                    Some(frame) => self.resume(alloc, frame, falsity),
                     None => return Ok(falsity),
                 },
             };
@@ -130,15 +137,14 @@ impl<'a> Rebuilding<'a> {
             return Err(HostFail::Failed);
         };
         self.levels.push(Level { of, next: 0, used })?;
-        let fact = Fact::assumed(alloc, &given.formula, true)?;
-        Ok(Turn::Follow(fact, clause.route))
+        follow(Fact::assumed(alloc, &given.formula, true), clause.route)
     }
 
     // Follows a fact by one part of a route.
     fn follow(&mut self, alloc: Global, fact: Fact, route: usize) -> Result<Turn, HostFail> {
         let formula = fact.formula.copy(alloc)?;
         match dest_formula(&formula) {
-            Formula::Not(p) => Ok(Turn::Follow(fact.negated(alloc, p)?, route)),
+            Formula::Not(p) => follow(fact.negated(alloc, p), route),
             Formula::ForAll(variable, body) | Formula::Exists(variable, body) => {
                 let of = Quantified {
                     formula: &formula,
@@ -159,7 +165,7 @@ impl<'a> Rebuilding<'a> {
     fn connective(&mut self, alloc: Global, fact: Fact, route: usize) -> Result<Turn, HostFail> {
         match self.problem.route(route) {
             Some(Route::Through(Part::Side(is_first), inner)) => {
-                Ok(Turn::Follow(fact.side(alloc, is_first)?, inner))
+                follow(fact.side(alloc, is_first), inner)
             }
             _ => self.alternatives(alloc, Alternatives::new(fact, true), route),
         }
@@ -185,27 +191,23 @@ impl<'a> Rebuilding<'a> {
         let Some(Route::Both(left, right)) = self.problem.route(route) else {
             return Err(HostFail::Failed);
         };
-        let first = of.first(alloc)?;
+        let first = of.assumed(alloc, true);
         self.frames.push(Frame::First(of, right))?;
-        Ok(Turn::Follow(first, left))
+        follow(first, left)
     }
 
     // Goes on where `F` was waited for.
     fn resume(&mut self, alloc: Global, frame: Frame, falsity: Just) -> Result<Turn, HostFail> {
         match frame {
             Frame::First(of, route) => {
-                let second = of.second(alloc)?;
+                let second = of.assumed(alloc, false);
                 self.frames.push(Frame::Second(of, falsity))?;
-                Ok(Turn::Follow(second, route))
+                follow(second, route)
             }
-            Frame::Second(of, first) => Ok(Turn::Refuted(of.refuted(
-                alloc,
-                Ok(first),
-                Ok(falsity),
-            )?)),
+            Frame::Second(of, first) => refuted(of.refuted(alloc, Ok(first), Ok(falsity))),
             Frame::Level(subgoal) => {
                 self.levels.pop();
-                Ok(Turn::Refuted(prove_hyp(alloc, Ok(subgoal), Ok(falsity))?))
+                refuted(prove_hyp(alloc, Ok(subgoal), Ok(falsity)))
             }
         }
     }
@@ -213,14 +215,14 @@ impl<'a> Rebuilding<'a> {
     // A literal: it contradicts the subgoal of its level, or the next move meets it.
     fn leaf(&mut self, alloc: Global, fact: Fact) -> Result<Turn, HostFail> {
         if self.is_used()? {
-            return Ok(Turn::Refuted(fact.against_assumed(alloc)?));
+            return refuted(fact.against_assumed(alloc));
         }
         let Some(next) = self.found.moves.get(self.next).copied() else {
             return Err(HostFail::Failed);
         };
         self.next = self.next.saturating_add(1);
         match next {
-            Move::Reduce => Ok(Turn::Refuted(fact.against_assumed(alloc)?)),
+            Move::Reduce => refuted(fact.against_assumed(alloc)),
             Move::Extend(extension) => {
                 self.frames.push(Frame::Level(fact.just))?;
                 let of = ClauseInstance {
@@ -256,11 +258,11 @@ impl<'a> Rebuilding<'a> {
         match self.problem.route(route) {
             Some(Route::Through(Part::Instance(number), inner)) => {
                 let value = self.values.value(alloc, instance, number)?;
-                Ok(Turn::Follow(fact.at_value(alloc, of, &value)?, inner))
+                follow(fact.at_value(alloc, of, &value), inner)
             }
             Some(Route::Through(Part::Witness(symbol), inner)) => {
                 let witness = self.values.witness(alloc, instance, symbol)?;
-                Ok(Turn::Follow(self.at_witness(alloc, fact, of, witness)?, inner))
+                follow(self.at_witness(alloc, fact, of, witness), inner)
             }
             _ => Err(HostFail::Failed),
         }
@@ -284,7 +286,7 @@ impl<'a> Rebuilding<'a> {
         let witnesses = &mut self.values.witnesses;
         let place = witnesses.suppose(alloc, witness, of, fact.positive)?;
         match witnesses.supposed(place) {
-            Some(supposed) => Ok(fact.at_witness(alloc, supposed)?),
+            Some(supposed) => fact.at_witness(alloc, supposed),
             None => Err(HostFail::Failed),
         }
     }

@@ -4,10 +4,11 @@ use hol_host::HostFail;
 use hol_just::{Goal, Just, Step, splice};
 use hol_model::Fault;
 use hol_tactics_forms::{
-    Derivation, Formula, assume, ccontr, conj, contr, contradiction, deduct_antisym, dest_formula,
+    Derivation, Formula, assume, ccontr, conj, contradiction, deduct_antisym, dest_formula,
     disj_cases, eq_mp, excluded_middle, mk_imp, mk_neg, mp, push_copy, refute, sub, sym, to_none,
     to_two, undisch,
 };
+use hol_tactics_refutation::{assumed, by_absurdity};
 use hol_tactics_rules::strip;
 use hol_terms::Term;
 use std::alloc::Global;
@@ -35,10 +36,29 @@ fn split_into(alloc: Global, goal: &Goal, goals: &mut Vec<Goal>, depth: u32) -> 
     };
     let mut parts = Vec::new(alloc);
     for goal in &step.goals {
-        let just = split_into(alloc, goal, goals, depth - 1);
-        parts.push(to_none(alloc, just)?)?;
+        add_part(alloc, split_into(alloc, goal, goals, depth - 1), &mut parts)?;
     }
-    Ok(splice(alloc, &step.just, &parts)?)
+    spliced(alloc, &step, &parts)
+}
+
+/// Adds the justification of a subgoal.
+pub(crate) fn add_part(
+    alloc: Global,
+    just: Derivation,
+    parts: &mut Vec<Step>,
+) -> Result<(), HostFail> {
+    parts.push(to_none(alloc, just)?)?;
+    Ok(())
+}
+
+/// The justification of a step with these for its subgoals.
+pub(crate) fn spliced(alloc: Global, step: &Step, parts: &[Step]) -> Derivation {
+    Ok(splice(alloc, &step.just, parts)?)
+}
+
+/// The same justification.
+pub(crate) fn again(alloc: Global, just: &Just) -> Derivation {
+    Ok(just.copy(alloc)?)
 }
 
 // A goal that is split no further.
@@ -51,15 +71,19 @@ fn left(alloc: Global, goal: &Goal, goals: &mut Vec<Goal>) -> Derivation {
 // A step that splits the conclusion, or else an assumption.
 fn first_split(alloc: Global, goal: &Goal) -> Result<Option<Step>, HostFail> {
     match dest_formula(&goal.concl) {
-        Formula::Iff(p, q) => Ok(Some(eq_tac(alloc, goal, p, q)?)),
-        Formula::Not(p) if !is_atom(p) => Ok(Some(strip(alloc, goal)?)),
+        Formula::Iff(p, q) => some(eq_tac(alloc, goal, p, q)),
+        Formula::Not(p) if !is_atom(p) => some(strip(alloc, goal)),
         Formula::Atom | Formula::Or(_, _) | Formula::Exists(_, _) | Formula::Not(_) => {
             split_assumption(alloc, goal)
         }
         Formula::And(_, _) | Formula::Implies(_, _) | Formula::ForAll(_, _) => {
-            Ok(Some(strip(alloc, goal)?))
+            some(strip(alloc, goal))
         }
     }
+}
+
+fn some(step: Result<Step, HostFail>) -> Result<Option<Step>, HostFail> {
+    Ok(Some(step?))
 }
 
 // EQ_TAC: an equivalence as two implications.
@@ -78,8 +102,8 @@ fn eq_tac(alloc: Global, goal: &Goal, p: &Term, q: &Term) -> Result<Step, HostFa
 
 // What an assumption gives in the two cases of a formula p: with p, and with `~p`, where it gives anything then.
 #[derive(Drop)]
-struct Cases {
-    p: Term,
+struct Cases<'a> {
+    p: &'a Term,
     with: Derived,
     without: Option<Derived>,
 }
@@ -95,7 +119,7 @@ struct Derived {
 fn split_assumption(alloc: Global, goal: &Goal) -> Result<Option<Step>, HostFail> {
     for (place, assumption) in goal.asms.iter().enumerate() {
         if let Some(cases) = cases_of(alloc, assumption)? {
-            return Ok(Some(by_cases(alloc, goal, place, &cases)?));
+            return some(by_cases(alloc, goal, place, &cases));
         }
     }
     Ok(None)
@@ -122,141 +146,95 @@ fn is_quantified(term: &Term, depth: u32) -> bool {
 
 // The cases of an assumption, if a quantifier stands in it and it is an equivalence, an implication, or the denial of an equivalence or
 // of a conjunction.
-fn cases_of(alloc: Global, assumption: &Term) -> Result<Option<Cases>, HostFail> {
+fn cases_of(alloc: Global, assumption: &Term) -> Result<Option<Cases<'_>>, HostFail> {
     if !is_quantified(assumption, DEPTH) {
         return Ok(None);
     }
     match dest_formula(assumption) {
-        Formula::Iff(p, q) => equivalence_cases(alloc, assumption, p, q),
-        Formula::Implies(p, q) => implication_cases(alloc, assumption, p, q),
+        Formula::Implies(p, q) => {
+            // q with p.
+            let just = mp(alloc, assume(alloc, assumption), assume(alloc, p));
+            with_one(p, Derived::new(q.copy(alloc), just))
+        }
+        Formula::Iff(p, q) => {
+            // q with p, and `~q` with `~p`.
+            let forth = eq_mp(alloc, assume(alloc, assumption), assume(alloc, p));
+            let back = sym(alloc, assume(alloc, assumption));
+            let p_holds = eq_mp(alloc, back, assume(alloc, q));
+            let clash = contradiction(alloc, assumed(alloc, p, false), p_holds);
+            let without = Derived::refuted(alloc, q, clash);
+            with_both(p, Derived::new(q.copy(alloc), forth), without)
+        }
         Formula::Not(denied) => denial_cases(alloc, assumption, denied),
         _ => Ok(None),
     }
 }
 
-fn denial_cases(
+fn denial_cases<'a>(
     alloc: Global,
     assumption: &Term,
-    denied: &Term,
-) -> Result<Option<Cases>, HostFail> {
+    denied: &'a Term,
+) -> Result<Option<Cases<'a>>, HostFail> {
     match dest_formula(denied) {
-        Formula::Iff(p, q) => difference_cases(alloc, assumption, p, q),
-        Formula::And(p, q) => exclusion_cases(alloc, assumption, p, q),
+        Formula::And(p, q) => {
+            // `~q` with p.
+            let both = conj(alloc, assume(alloc, p), assume(alloc, q));
+            let clash = contradiction(alloc, assume(alloc, assumption), both);
+            with_one(p, Derived::refuted(alloc, q, clash))
+        }
+        Formula::Iff(p, q) => {
+            // `~q` with p, and q with `~p`.
+            let hold = deduct_antisym(alloc, assume(alloc, p), assume(alloc, q));
+            let clash = contradiction(alloc, assume(alloc, assumption), hold);
+            let with = Derived::refuted(alloc, q, clash);
+            let (p_holds, q_holds) = (by_absurdity(alloc, q, p), by_absurdity(alloc, p, q));
+            let fail = deduct_antisym(alloc, p_holds, q_holds);
+            let clash = contradiction(alloc, assume(alloc, assumption), fail);
+            with_both(
+                p,
+                with,
+                Derived::new(q.copy(alloc), ccontr(alloc, q, clash)),
+            )
+        }
         _ => Ok(None),
     }
 }
 
-// The cases of p, with what they give.
-fn cases_by(
-    alloc: Global,
+// The cases of p, where something is derived with p alone.
+fn with_one(p: &Term, with: Result<Derived, HostFail>) -> Result<Option<Cases<'_>>, HostFail> {
+    let with = with?;
+    let without = None;
+    Ok(Some(Cases { p, with, without }))
+}
+
+// The cases of p, where something is derived in both.
+fn with_both(
     p: &Term,
     with: Result<Derived, HostFail>,
-    without: Result<Option<Derived>, HostFail>,
-) -> Result<Option<Cases>, HostFail> {
-    Ok(Some(Cases {
-        with: with?,
-        without: without?,
-        p: p.copy(alloc)?,
-    }))
+    without: Result<Derived, HostFail>,
+) -> Result<Option<Cases<'_>>, HostFail> {
+    let with = with?;
+    let without = Some(without?);
+    Ok(Some(Cases { p, with, without }))
 }
 
 impl Derived {
-    // What is proved.
-    fn new(alloc: Global, formula: &Term, just: Derivation) -> Result<Derived, HostFail> {
+    // A formula with its proof, where there are both.
+    fn new(formula: Result<Term, Fault>, just: Derivation) -> Result<Derived, HostFail> {
+        let formula = formula?;
         let just = just?;
-        let formula = formula.copy(alloc)?;
         Ok(Derived { formula, just })
     }
 
     // `~p`, of `F` from p.
     fn refuted(alloc: Global, p: &Term, falsity: Derivation) -> Result<Derived, HostFail> {
-        let formula = mk_neg(alloc, p)?;
-        let just = refute(alloc, p, falsity)?;
-        Ok(Derived { formula, just })
+        Derived::new(mk_neg(alloc, p), refute(alloc, p, falsity))
     }
 }
 
-// What is derived, as there is something.
-fn some(derived: Result<Derived, HostFail>) -> Result<Option<Derived>, HostFail> {
-    Ok(Some(derived?))
-}
-
-// Of `p ==> q`: q with p.
-fn implication_cases(
-    alloc: Global,
-    assumption: &Term,
-    p: &Term,
-    q: &Term,
-) -> Result<Option<Cases>, HostFail> {
-    let just = mp(alloc, assume(alloc, assumption), assume(alloc, p));
-    cases_by(alloc, p, Derived::new(alloc, q, just), Ok(None))
-}
-
-// Of `~(p /\ q)`: `~q` with p.
-fn exclusion_cases(
-    alloc: Global,
-    assumption: &Term,
-    p: &Term,
-    q: &Term,
-) -> Result<Option<Cases>, HostFail> {
-    let both = conj(alloc, assume(alloc, p), assume(alloc, q));
-    let clash = contradiction(alloc, assume(alloc, assumption), both);
-    cases_by(alloc, p, Derived::refuted(alloc, q, clash), Ok(None))
-}
-
-// Of `p <=> q`: q with p, and `~q` with `~p`.
-fn equivalence_cases(
-    alloc: Global,
-    assumption: &Term,
-    p: &Term,
-    q: &Term,
-) -> Result<Option<Cases>, HostFail> {
-    let forth = eq_mp(alloc, assume(alloc, assumption), assume(alloc, p));
-    let without = equal_without(alloc, assumption, p, q);
-    cases_by(alloc, p, Derived::new(alloc, q, forth), some(without))
-}
-
-fn equal_without(alloc: Global, equal: &Term, p: &Term, q: &Term) -> Result<Derived, HostFail> {
-    let denied = mk_neg(alloc, p)?;
-    let of_right = eq_mp(alloc, sym(alloc, assume(alloc, equal)), assume(alloc, q));
-    let clash = contradiction(alloc, assume(alloc, &denied), of_right);
-    Derived::refuted(alloc, q, clash)
-}
-
-// Of `~(p <=> q)`: `~q` with p, and q with `~p`.
-fn difference_cases(
-    alloc: Global,
-    assumption: &Term,
-    p: &Term,
-    q: &Term,
-) -> Result<Option<Cases>, HostFail> {
-    let equal = deduct_antisym(alloc, assume(alloc, p), assume(alloc, q));
-    let clash = contradiction(alloc, assume(alloc, assumption), equal);
-    let without = different_without(alloc, assumption, p, q);
-    cases_by(alloc, p, Derived::refuted(alloc, q, clash), some(without))
-}
-
-fn different_without(
-    alloc: Global,
-    different: &Term,
-    p: &Term,
-    q: &Term,
-) -> Result<Derived, HostFail> {
-    let equal = deduct_antisym(alloc, denied_gives(alloc, q, p), denied_gives(alloc, p, q));
-    let clash = contradiction(alloc, assume(alloc, different), equal);
-    Derived::new(alloc, q, ccontr(alloc, q, clash))
-}
-
-// q, from p and `~p`.
-fn denied_gives(alloc: Global, p: &Term, q: &Term) -> Derivation {
-    let denied = mk_neg(alloc, p)?;
-    let clash = contradiction(alloc, assume(alloc, &denied), assume(alloc, p));
-    contr(alloc, q, clash)
-}
-
 // The step to a goal for each case, in which what it gives stands before the conclusion in place of the assumption.
-fn by_cases(alloc: Global, goal: &Goal, place: usize, cases: &Cases) -> Result<Step, HostFail> {
-    let p = &cases.p;
+fn by_cases(alloc: Global, goal: &Goal, place: usize, cases: &Cases<'_>) -> Result<Step, HostFail> {
+    let p = cases.p;
     let denied = mk_neg(alloc, p)?;
     let without = cases.without.as_ref();
     let holds = concluded(alloc, p, Some(&cases.with), 0);
@@ -272,10 +250,7 @@ fn by_cases(alloc: Global, goal: &Goal, place: usize, cases: &Cases) -> Result<S
 // The goal's conclusion, from p, by the goal `derived ==> p ==> concl` of this number, which is stripped next.
 fn concluded(alloc: Global, p: &Term, derived: Option<&Derived>, number: usize) -> Derivation {
     let implies = match derived {
-        Some(derived) => {
-            let given = derived.just.copy(alloc)?;
-            mp(alloc, sub(alloc, number), Ok(given))
-        }
+        Some(derived) => mp(alloc, sub(alloc, number), again(alloc, &derived.just)),
         None => sub(alloc, number),
     };
     mp(alloc, implies, assume(alloc, p))

@@ -28,10 +28,21 @@ fn literal(alloc: Global, formula: &Term, positive: bool) -> Result<Term, Fault>
     mk_neg(alloc, formula)
 }
 
-// The formula, or its negation, assumed.
-fn assumed(alloc: Global, formula: &Term, positive: bool) -> Derivation {
+/// The formula, or its negation, assumed.
+pub fn assumed(alloc: Global, formula: &Term, positive: bool) -> Derivation {
     let literal = literal(alloc, formula, positive)?;
     assume(alloc, &literal)
+}
+
+/// q, of p and `~p`, which are assumed.
+pub fn by_absurdity(alloc: Global, p: &Term, q: &Term) -> Derivation {
+    let absurd = contradiction(alloc, assumed(alloc, p, false), assume(alloc, p));
+    contr(alloc, q, absurd)
+}
+
+// Of a denied formula and what gives it from a part, that the part fails.
+fn part_fails(alloc: Global, denied: Derivation, part: &Term, formula: Derivation) -> Derivation {
+    refute(alloc, part, contradiction(alloc, denied, formula))
 }
 
 impl Fact {
@@ -85,25 +96,23 @@ impl Fact {
         let just = if self.positive {
             spec(alloc, value, Ok(self.just))
         } else {
-            of_none(alloc, Ok(self.just), of.formula, value, &formula)
+            let some = exists(alloc, of.formula, value, assume(alloc, &formula));
+            part_fails(alloc, Ok(self.just), &formula, some)
         };
         Fact::new(alloc, just, &formula, self.positive)
     }
 
     /// Of `?x. p`, or of `~(!x. p)`, what it says of a witness.
     pub fn at_witness(self, alloc: Global, supposed: &Supposed) -> Result<Fact, HostFail> {
+        let body_at = &supposed.body_at;
         let implies = assume(alloc, &supposed.hypothesis);
         let just = if self.positive {
             mp(alloc, implies, Ok(self.just))
         } else {
-            let all = mp(alloc, implies, assume(alloc, &supposed.body_at));
-            refute(
-                alloc,
-                &supposed.body_at,
-                contradiction(alloc, Ok(self.just), all),
-            )
+            let all = mp(alloc, implies, assume(alloc, body_at));
+            part_fails(alloc, Ok(self.just), body_at, all)
         };
-        Fact::new(alloc, just, &supposed.body_at, self.positive)
+        Fact::new(alloc, just, body_at, self.positive)
     }
 
     /// The first or the second of the facts that a conjunction, a denied disjunction or a denied implication is.
@@ -114,82 +123,33 @@ impl Fact {
             positive,
         } = self;
         let just = Ok(just);
-        match (dest_formula(&formula), positive) {
-            (Formula::And(p, q), true) => conjunct(alloc, just, p, q, is_first),
-            (Formula::Or(p, q), false) => no_disjunct(alloc, just, p, q, is_first),
-            (Formula::Implies(p, q), false) => of_no_implication(alloc, just, p, q, is_first),
+        match (dest_formula(&formula), positive, is_first) {
+            (Formula::And(p, _), true, true) => {
+                Fact::new(alloc, conjunct1(alloc, just), p, true)
+            }
+            (Formula::And(_, q), true, false) => {
+                Fact::new(alloc, conjunct2(alloc, just), q, true)
+            }
+            (Formula::Or(p, q), false, true) => {
+                let either = disj1(alloc, assume(alloc, p), q);
+                Fact::new(alloc, part_fails(alloc, just, p, either), p, false)
+            }
+            (Formula::Or(p, q), false, false) => {
+                let either = disj2(alloc, p, assume(alloc, q));
+                Fact::new(alloc, part_fails(alloc, just, q, either), q, false)
+            }
+            (Formula::Implies(p, q), false, true) => {
+                let implies = disch(alloc, p, by_absurdity(alloc, p, q));
+                let clash = contradiction(alloc, just, implies);
+                Fact::new(alloc, ccontr(alloc, p, clash), p, true)
+            }
+            (Formula::Implies(p, q), false, false) => {
+                let implies = disch(alloc, p, assume(alloc, q));
+                Fact::new(alloc, part_fails(alloc, just, q, implies), q, false)
+            }
             _ => Err(HostFail::Failed),
         }
     }
-}
-
-// Of `~(?x. p)`, that p fails at a value.
-fn of_none(
-    alloc: Global,
-    none: Derivation,
-    formula: &Term,
-    value: &Term,
-    body_at: &Term,
-) -> Derivation {
-    let some = exists(alloc, formula, value, assume(alloc, body_at));
-    refute(alloc, body_at, contradiction(alloc, none, some))
-}
-
-// Of `p /\ q`, p or q.
-fn conjunct(
-    alloc: Global,
-    both: Derivation,
-    p: &Term,
-    q: &Term,
-    is_first: bool,
-) -> Result<Fact, HostFail> {
-    if is_first {
-        Fact::new(alloc, conjunct1(alloc, both), p, true)
-    } else {
-        Fact::new(alloc, conjunct2(alloc, both), q, true)
-    }
-}
-
-// Of `~(p \/ q)`, that p or q fails.
-fn no_disjunct(
-    alloc: Global,
-    neither: Derivation,
-    p: &Term,
-    q: &Term,
-    is_first: bool,
-) -> Result<Fact, HostFail> {
-    let part = if is_first { p } else { q };
-    let either = disjunction(alloc, p, q, is_first);
-    let just = refute(alloc, part, contradiction(alloc, neither, either));
-    Fact::new(alloc, just, part, false)
-}
-
-// `p \/ q`, of p or of q, which is assumed.
-fn disjunction(alloc: Global, p: &Term, q: &Term, is_first: bool) -> Derivation {
-    if is_first {
-        disj1(alloc, assume(alloc, p), q)
-    } else {
-        disj2(alloc, p, assume(alloc, q))
-    }
-}
-
-// Of `~(p ==> q)`, p, or that q fails.
-fn of_no_implication(
-    alloc: Global,
-    denied: Derivation,
-    p: &Term,
-    q: &Term,
-    is_first: bool,
-) -> Result<Fact, HostFail> {
-    if is_first {
-        let absurd = contradiction(alloc, assumed(alloc, p, false), assume(alloc, p));
-        let implies = disch(alloc, p, contr(alloc, q, absurd));
-        let just = ccontr(alloc, p, contradiction(alloc, denied, implies));
-        return Fact::new(alloc, just, p, true);
-    }
-    let implies = disch(alloc, p, assume(alloc, q));
-    let just = refute(alloc, q, contradiction(alloc, denied, implies));
-    Fact::new(alloc, just, q, false)
 }
 
 /// A formula, affirmed or denied, of which one of two alternatives holds. An equivalence has two such pairs: this is its first one or
@@ -216,22 +176,17 @@ impl Alternatives {
         Alternatives { fact, is_first }
     }
 
-    /// The first alternative, assumed.
-    pub fn first(&self, alloc: Global) -> Result<Fact, HostFail> {
-        let Some((p, _)) = sides(&self.fact.formula) else {
+    /// The first or the second alternative, assumed.
+    pub fn assumed(&self, alloc: Global, is_left: bool) -> Result<Fact, HostFail> {
+        let Some((p, q)) = sides(&self.fact.formula) else {
             return Err(HostFail::Failed);
         };
-        let (is_left, _) = self.signs();
-        Fact::assumed(alloc, p, is_left)
-    }
-
-    /// The second one.
-    pub fn second(&self, alloc: Global) -> Result<Fact, HostFail> {
-        let Some((_, q)) = sides(&self.fact.formula) else {
-            return Err(HostFail::Failed);
-        };
-        let (_, is_right) = self.signs();
-        Fact::assumed(alloc, q, is_right)
+        let (left, right) = self.signs();
+        if is_left {
+            Fact::assumed(alloc, p, left)
+        } else {
+            Fact::assumed(alloc, q, right)
+        }
     }
 
     // Whether each alternative is affirmed. Of `p \/ q` and of `~(p /\ q)` they are the parts; of `p ==> q` that p fails, or q; of
@@ -259,98 +214,31 @@ impl Alternatives {
             is_first,
         } = self;
         let just = Ok(just);
-        match (dest_formula(&formula), positive) {
-            (Formula::Or(_, _), true) => disj_cases(alloc, just, left, right),
-            (Formula::And(p, q), false) => no_conjunction(alloc, just, p, left, q, right),
-            (Formula::Implies(p, _), true) => by_consequent(alloc, just, p, left, right),
-            (Formula::Iff(p, q), true) => {
-                if is_first {
-                    forth(alloc, just, p, left, right)
-                } else {
-                    back(alloc, just, q, left, right)
-                }
+        match (dest_formula(&formula), positive, is_first) {
+            (Formula::Or(_, _), true, _) => disj_cases(alloc, just, left, right),
+            (Formula::And(p, q), false, _) => {
+                let both = conj(alloc, ccontr(alloc, p, left), ccontr(alloc, q, right));
+                contradiction(alloc, just, both)
             }
-            (Formula::Iff(p, q), false) => {
-                if is_first {
-                    both_fail(alloc, just, p, left, q, right)
-                } else {
-                    both_hold(alloc, just, p, left, q, right)
-                }
+            (Formula::Implies(p, _), true, _) => {
+                prove_hyp(alloc, mp(alloc, just, ccontr(alloc, p, left)), right)
+            }
+            (Formula::Iff(p, _), true, true) => {
+                prove_hyp(alloc, eq_mp(alloc, just, ccontr(alloc, p, left)), right)
+            }
+            (Formula::Iff(_, q), true, false) => {
+                let p = eq_mp(alloc, sym(alloc, just), assume(alloc, q));
+                prove_hyp(alloc, refute(alloc, q, prove_hyp(alloc, p, left)), right)
+            }
+            (Formula::Iff(p, q), false, true) => {
+                let equal = deduct_antisym(alloc, contr(alloc, p, right), contr(alloc, q, left));
+                contradiction(alloc, just, equal)
+            }
+            (Formula::Iff(p, q), false, false) => {
+                let equal = deduct_antisym(alloc, ccontr(alloc, p, left), ccontr(alloc, q, right));
+                contradiction(alloc, just, equal)
             }
             _ => Err(HostFail::Failed),
         }
     }
-}
-
-// `F`, of `p ==> q` and of `F` from `~p` and from q.
-fn by_consequent(
-    alloc: Global,
-    implies: Derivation,
-    p: &Term,
-    left: Derivation,
-    right: Derivation,
-) -> Derivation {
-    prove_hyp(alloc, mp(alloc, implies, ccontr(alloc, p, left)), right)
-}
-
-// `F`, of `~(p /\ q)` and of `F` from `~p` and from `~q`.
-fn no_conjunction(
-    alloc: Global,
-    denied: Derivation,
-    p: &Term,
-    left: Derivation,
-    q: &Term,
-    right: Derivation,
-) -> Derivation {
-    let both = conj(alloc, ccontr(alloc, p, left), ccontr(alloc, q, right));
-    contradiction(alloc, denied, both)
-}
-
-// `F`, of `p <=> q` and of `F` from `~p` and from q.
-fn forth(
-    alloc: Global,
-    equal: Derivation,
-    p: &Term,
-    left: Derivation,
-    right: Derivation,
-) -> Derivation {
-    prove_hyp(alloc, eq_mp(alloc, equal, ccontr(alloc, p, left)), right)
-}
-
-// `F`, of `p <=> q` and of `F` from p and from `~q`.
-fn back(
-    alloc: Global,
-    equal: Derivation,
-    q: &Term,
-    left: Derivation,
-    right: Derivation,
-) -> Derivation {
-    let p = eq_mp(alloc, sym(alloc, equal), assume(alloc, q));
-    prove_hyp(alloc, refute(alloc, q, prove_hyp(alloc, p, left)), right)
-}
-
-// `F`, of `~(p <=> q)` and of `F` from p and from q.
-fn both_fail(
-    alloc: Global,
-    denied: Derivation,
-    p: &Term,
-    left: Derivation,
-    q: &Term,
-    right: Derivation,
-) -> Derivation {
-    let equal = deduct_antisym(alloc, contr(alloc, p, right), contr(alloc, q, left));
-    contradiction(alloc, denied, equal)
-}
-
-// `F`, of `~(p <=> q)` and of `F` from `~p` and from `~q`.
-fn both_hold(
-    alloc: Global,
-    denied: Derivation,
-    p: &Term,
-    left: Derivation,
-    q: &Term,
-    right: Derivation,
-) -> Derivation {
-    let equal = deduct_antisym(alloc, ccontr(alloc, p, left), ccontr(alloc, q, right));
-    contradiction(alloc, denied, equal)
 }

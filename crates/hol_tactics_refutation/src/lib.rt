@@ -7,5 +7,5 @@
 mod facts;
 mod witnesses;
 
-pub use facts::{Alternatives, Fact};
+pub use facts::{Alternatives, Fact, assumed, by_absurdity};
 pub use witnesses::{Quantified, Supposed, Witnesses};

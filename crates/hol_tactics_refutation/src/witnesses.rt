@@ -1,12 +1,12 @@
 // Variables that stand for witnesses, and why there are such values.
 
+use crate::facts::{assumed, by_absurdity};
 use hol_alpha::aconv;
 use hol_host::HostFail;
-use hol_just::Just;
 use hol_model::Fault;
 use hol_tactics_forms::{
-    Derivation, assume, ccontr, choose, contr, contradiction, disch, disj_cases, excluded_middle,
-    exists, fresh, generalize, mk_exists, mk_imp, mk_neg, with_value,
+    Derivation, assume, ccontr, choose, contradiction, disch, disj_cases, excluded_middle, exists,
+    fresh, generalize, mk_exists, mk_imp, push_copy, with_value,
 };
 use hol_terms::{Term, free_in};
 use hol_types::Ty;
@@ -89,7 +89,7 @@ impl Witnesses {
         }
         let named = Term::mk_var(alloc, "any", ty)?;
         let variable = fresh(alloc, &mut self.avoid, &named)?;
-        self.free.push(variable.copy(alloc)?)?;
+        push_copy(alloc, &variable, &mut self.free)?;
         Ok(variable)
     }
 
@@ -153,22 +153,28 @@ impl Witnesses {
     }
 
     /// The justification of a formula without what is supposed of the witnesses: first of one that no other supposition names.
-    pub fn discharged(&self, alloc: Global, of: Just) -> Result<Just, HostFail> {
+    pub fn discharged(&self, alloc: Global, of: Derivation) -> Derivation {
         let mut just = of;
-        let mut is_left = Vec::new(alloc);
+        let mut is_left = self.all_left(alloc)?;
         for _ in &self.supposed {
-            is_left.push(true)?;
-        }
-        for _ in 0..self.supposed.len() {
             let Some(last) = self.last(&is_left) else {
                 return Err(HostFail::Failed);
             };
-            just = self.without(alloc, last, just)?;
+            just = self.without(alloc, last, just);
             if let Some(flag) = is_left.get_mut(last) {
                 *flag = false;
             }
         }
-        Ok(just)
+        just
+    }
+
+    // That each supposition is left.
+    fn all_left(&self, alloc: Global) -> Result<Vec<bool>, HostFail> {
+        let mut is_left = Vec::new(alloc);
+        for _ in &self.supposed {
+            is_left.push(true)?;
+        }
+        Ok(is_left)
     }
 
     // The place of a supposition that is left whose witness no other that is left names.
@@ -192,15 +198,11 @@ impl Witnesses {
     }
 
     // The justification without the supposition at this place.
-    fn without(&self, alloc: Global, at: usize, just: Just) -> Derivation {
+    fn without(&self, alloc: Global, at: usize, just: Derivation) -> Derivation {
         match self.supposed.get(at) {
             Some(supposed) => {
-                choose(
-                    alloc,
-                    &supposed.variable,
-                    supposed.witnessed(alloc),
-                    Ok(just),
-                )
+                let witnessed = supposed.witnessed(alloc);
+                choose(alloc, &supposed.variable, witnessed, just)
             }
             None => Err(HostFail::Failed),
         }
@@ -223,19 +225,18 @@ impl Supposed {
         is_existential: bool,
     ) -> Result<Supposed, Fault> {
         let body_at = of.body_at(alloc, &variable)?;
-        let formula = of.formula.copy(alloc)?;
         let hypothesis = if is_existential {
-            mk_imp(alloc, &formula, &body_at)?
+            mk_imp(alloc, of.formula, &body_at)
         } else {
-            mk_imp(alloc, &body_at, &formula)?
+            mk_imp(alloc, &body_at, of.formula)
         };
         Ok(Supposed {
             witness,
+            hypothesis: hypothesis?,
+            formula: of.formula.copy(alloc)?,
             variable,
-            formula,
             is_existential,
             body_at,
-            hypothesis,
         })
     }
 
@@ -270,27 +271,22 @@ impl Supposed {
 
     // The claim, that `p ==> q` at v, from `~p`.
     fn claim_by_absurdity(&self, alloc: Global, claim: &Term, p: &Term, q: &Term) -> Derivation {
-        let denied = mk_neg(alloc, p)?;
-        let absurd = contradiction(alloc, assume(alloc, &denied), assume(alloc, p));
-        self.claimed(alloc, claim, disch(alloc, p, contr(alloc, q, absurd)))
+        let implies = disch(alloc, p, by_absurdity(alloc, p, q));
+        self.claimed(alloc, claim, implies)
     }
 
     // `?v. p[v/x] ==> !x. p`: if it were denied, `!x. p` would hold, and any value would do.
     fn for_universal(&self, alloc: Global, claim: &Term) -> Derivation {
-        let denied = mk_neg(alloc, claim)?;
-        let all = self.all_if_denied(alloc, claim, &denied);
-        let claimed = self.claimed(alloc, claim, disch(alloc, &self.body_at, all));
-        ccontr(
-            alloc,
-            claim,
-            contradiction(alloc, assume(alloc, &denied), claimed),
-        )
+        let implies = disch(alloc, &self.body_at, self.all_if_denied(alloc, claim));
+        let claimed = self.claimed(alloc, claim, implies);
+        let clash = contradiction(alloc, assumed(alloc, claim, false), claimed);
+        ccontr(alloc, claim, clash)
     }
 
     // `!x. p`, from the denied claim.
-    fn all_if_denied(&self, alloc: Global, claim: &Term, denied: &Term) -> Derivation {
+    fn all_if_denied(&self, alloc: Global, claim: &Term) -> Derivation {
         let claimed = self.claim_by_absurdity(alloc, claim, &self.body_at, &self.formula);
-        let clash = contradiction(alloc, assume(alloc, denied), claimed);
+        let clash = contradiction(alloc, assumed(alloc, claim, false), claimed);
         generalize(alloc, &self.variable, ccontr(alloc, &self.body_at, clash))
     }
 }

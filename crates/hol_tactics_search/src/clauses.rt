@@ -1,11 +1,10 @@
 // Clauses of formulas, each with its route: which parts of the formula it goes through.
 
-use crate::first_order::{DEPTH, Scoped, is_innermost};
+use crate::first_order::{DEPTH, Scoped, add, is_free};
 use crate::problem::{Clause, Given, Literal, Part, Problem, Route};
 use hol_host::HostFail;
-use hol_just::Just;
 use hol_tactics_forms::{Formula, dest_formula};
-use hol_terms::{Term, free_in};
+use hol_terms::Term;
 use std::alloc::Global;
 
 // How many clauses there may be.
@@ -18,35 +17,91 @@ struct Signed<'a> {
     positive: bool,
 }
 
+// Two formulas with signs, which are two facts, or of which one holds.
+#[derive(Clone, Copy)]
+struct Two<'a> {
+    left: Signed<'a>,
+    right: Signed<'a>,
+    are_facts: bool,
+}
+
+// A body that holds for all values of its variable, or for some.
+#[derive(Clone, Copy)]
+struct Bound<'a> {
+    variable: &'a Term,
+    body: Signed<'a>,
+    for_all: bool,
+}
+
+// What a formula with a sign says.
+#[derive(Clone, Copy)]
+enum Meaning<'a> {
+    Literal,
+    Same(Signed<'a>),
+    Joined(Two<'a>),
+    Equivalence(&'a Term, &'a Term),
+    Quantified(Bound<'a>),
+}
+
 fn with_sign(formula: &Term, positive: bool) -> Signed<'_> {
     Signed { formula, positive }
 }
 
+fn joined<'a>(left: Signed<'a>, right: Signed<'a>, are_facts: bool) -> Meaning<'a> {
+    Meaning::Joined(Two {
+        left,
+        right,
+        are_facts,
+    })
+}
+
+impl<'a> Signed<'a> {
+    fn meaning(self) -> Meaning<'a> {
+        let positive = self.positive;
+        match dest_formula(self.formula) {
+            Formula::Not(p) => Meaning::Same(with_sign(p, !positive)),
+            Formula::And(p, q) => joined(with_sign(p, positive), with_sign(q, positive), positive),
+            Formula::Or(p, q) => joined(with_sign(p, positive), with_sign(q, positive), !positive),
+            Formula::Implies(p, q) => {
+                joined(with_sign(p, !positive), with_sign(q, positive), !positive)
+            }
+            Formula::Iff(p, q) => Meaning::Equivalence(p, q),
+            Formula::ForAll(variable, body) => self.quantified(variable, body, positive),
+            Formula::Exists(variable, body) => self.quantified(variable, body, !positive),
+            Formula::Atom => Meaning::Literal,
+        }
+    }
+
+    fn quantified(self, variable: &'a Term, body: &'a Term, for_all: bool) -> Meaning<'a> {
+        Meaning::Quantified(Bound {
+            variable,
+            body: with_sign(body, self.positive),
+            for_all,
+        })
+    }
+}
+
 impl Problem {
-    /// Adds a formula, which is assumed or proved, and its clauses.
-    pub fn give(
-        &mut self,
-        alloc: Global,
-        formula: Term,
-        proof: Option<Just>,
-    ) -> Result<(), HostFail> {
-        let given = self.givens.len();
-        self.add_clauses(alloc, given, &formula)?;
-        self.givens.push(Given { formula, proof })?;
+    /// Adds what is given, and its clauses.
+    pub fn give(&mut self, alloc: Global, given: Result<Given, HostFail>) -> Result<(), HostFail> {
+        let given = given?;
+        self.add_clauses(alloc, &given.formula)?;
+        self.givens.push(given)?;
         Ok(())
     }
 
-    fn add_clauses(&mut self, alloc: Global, given: usize, formula: &Term) -> Result<(), HostFail> {
+    // Adds the clauses of what is given next.
+    fn add_clauses(&mut self, alloc: Global, formula: &Term) -> Result<(), HostFail> {
         let mut scope = Vec::new(alloc);
         let routes = self.routes_of(alloc, with_sign(formula, true), &mut scope, DEPTH)?;
         for route in &routes {
-            self.add_clause(alloc, given, *route)?;
+            self.add_clause(alloc, *route)?;
         }
         Ok(())
     }
 
     // Adds the clause of a route, unless an atom is both affirmed and denied in it.
-    fn add_clause(&mut self, alloc: Global, given: usize, route: usize) -> Result<(), HostFail> {
+    fn add_clause(&mut self, alloc: Global, route: usize) -> Result<(), HostFail> {
         if self.clauses.len() >= CLAUSES {
             return Err(HostFail::Failed);
         }
@@ -58,7 +113,7 @@ impl Problem {
         let variables = self.variables_of(alloc, &leaves)?;
         let literals = self.renumbered(alloc, &leaves, &variables)?;
         self.clauses.push(Clause {
-            given,
+            given: self.givens.len(),
             route,
             literals,
             variables,
@@ -127,12 +182,6 @@ impl Problem {
         }
     }
 
-    fn add_route(&mut self, route: Route) -> Result<usize, HostFail> {
-        let number = self.routes.len();
-        self.routes.push(route)?;
-        Ok(number)
-    }
-
     // The routes of the clauses of a formula in which these variables are bound.
     #[cycle(routing)]
     fn routes_of(
@@ -146,37 +195,16 @@ impl Problem {
             return Err(HostFail::Failed);
         }
         let below = depth - 1;
-        let Signed { formula, positive } = of;
-        match dest_formula(formula) {
-            Formula::Not(p) => self.routes_of(alloc, with_sign(p, !positive), scope, below),
-            Formula::And(p, q) => {
-                let (p, q) = (with_sign(p, positive), with_sign(q, positive));
-                self.routes_of_two(alloc, p, q, positive, scope, below)
+        match of.meaning() {
+            Meaning::Literal => self.routes_of_atom(alloc, of, scope),
+            Meaning::Same(denied) => self.routes_of(alloc, denied, scope, below),
+            Meaning::Joined(two) => self.routes_of_two(alloc, two, scope, below),
+            Meaning::Equivalence(p, q) => {
+                self.routes_of_iff(alloc, p, q, of.positive, scope, below)
             }
-            Formula::Or(p, q) => {
-                let (p, q) = (with_sign(p, positive), with_sign(q, positive));
-                self.routes_of_two(alloc, p, q, !positive, scope, below)
+            Meaning::Quantified(bound) => {
+                self.routes_of_quantified(alloc, of.formula, bound, scope, below)
             }
-            Formula::Implies(p, q) => {
-                let (p, q) = (with_sign(p, !positive), with_sign(q, positive));
-                self.routes_of_two(alloc, p, q, !positive, scope, below)
-            }
-            Formula::Iff(p, q) => self.routes_of_iff(alloc, p, q, positive, scope, below),
-            Formula::ForAll(variable, body) => {
-                let body = with_sign(body, positive);
-                if positive {
-                    return self.routes_for_all(alloc, variable, body, scope, below);
-                }
-                self.routes_for_some(alloc, formula, variable, body, scope, below)
-            }
-            Formula::Exists(variable, body) => {
-                let body = with_sign(body, positive);
-                if positive {
-                    return self.routes_for_some(alloc, formula, variable, body, scope, below);
-                }
-                self.routes_for_all(alloc, variable, body, scope, below)
-            }
-            Formula::Atom => self.routes_of_atom(alloc, of, scope),
         }
     }
 
@@ -186,34 +214,27 @@ impl Problem {
         of: Signed<'_>,
         scope: &[Scoped],
     ) -> Result<Vec<usize>, HostFail> {
-        let atom = self.terms.of_term(alloc, of.formula, scope)?;
-        let leaf = self.add_route(Route::Leaf(Literal {
+        let leaf = Route::Leaf(Literal {
             positive: of.positive,
-            atom,
-        }))?;
+            atom: self.terms.of_term(alloc, of.formula, scope)?,
+        });
         let mut routes = Vec::new(alloc);
-        routes.push(leaf)?;
+        routes.push(add(&mut self.routes, leaf)?)?;
         Ok(routes)
     }
 
-    // Those of two facts, or of either of two.
     #[cycle(routing)]
     fn routes_of_two(
         &mut self,
         alloc: Global,
-        p: Signed<'_>,
-        q: Signed<'_>,
-        are_facts: bool,
+        of: Two<'_>,
         scope: &mut Vec<Scoped>,
         depth: u32,
     ) -> Result<Vec<usize>, HostFail> {
-        if depth == 0 {
-            return Err(HostFail::Failed);
-        }
-        let left = self.routes_of(alloc, p, scope, depth - 1)?;
-        let right = self.routes_of(alloc, q, scope, depth - 1)?;
-        if are_facts {
-            self.facts(alloc, &left, &right)
+        let left = self.routes_of(alloc, of.left, scope, depth)?;
+        let right = self.routes_of(alloc, of.right, scope, depth)?;
+        if of.are_facts {
+            self.facts(left, right)
         } else {
             self.both(alloc, &left, &right)
         }
@@ -230,87 +251,61 @@ impl Problem {
         scope: &mut Vec<Scoped>,
         depth: u32,
     ) -> Result<Vec<usize>, HostFail> {
-        if depth == 0 {
-            return Err(HostFail::Failed);
-        }
-        let (is_p, is_q) = (with_sign(p, positive), with_sign(q, true));
-        let (no_p, no_q) = (with_sign(p, !positive), with_sign(q, false));
-        let first = self.routes_of_two(alloc, no_p, is_q, false, scope, depth - 1)?;
-        let second = self.routes_of_two(alloc, is_p, no_q, false, scope, depth - 1)?;
-        self.facts(alloc, &first, &second)
+        let first = Two {
+            left: with_sign(p, !positive),
+            right: with_sign(q, true),
+            are_facts: false,
+        };
+        let second = Two {
+            left: with_sign(p, positive),
+            right: with_sign(q, false),
+            are_facts: false,
+        };
+        let first = self.routes_of_two(alloc, first, scope, depth)?;
+        let second = self.routes_of_two(alloc, second, scope, depth)?;
+        self.facts(first, second)
     }
 
-    // Those of a body that holds for all values of its variable.
     #[cycle(routing)]
-    fn routes_for_all(
-        &mut self,
-        alloc: Global,
-        variable: &Term,
-        body: Signed<'_>,
-        scope: &mut Vec<Scoped>,
-        depth: u32,
-    ) -> Result<Vec<usize>, HostFail> {
-        if depth == 0 {
-            return Err(HostFail::Failed);
-        }
-        let number = self.quantified.len();
-        self.quantified.push(variable.copy(alloc)?)?;
-        let node = self.terms.variable(alloc, number, variable.ty())?;
-        let inner = self.routes_under(alloc, variable, node, body, scope, depth - 1)?;
-        self.through(alloc, Part::Instance(number), &inner)
-    }
-
-    // Those of a body that holds for some value of its variable, of this formula.
-    #[cycle(routing)]
-    fn routes_for_some(
+    fn routes_of_quantified(
         &mut self,
         alloc: Global,
         formula: &Term,
-        variable: &Term,
-        body: Signed<'_>,
+        of: Bound<'_>,
         scope: &mut Vec<Scoped>,
         depth: u32,
     ) -> Result<Vec<usize>, HostFail> {
-        if depth == 0 {
-            return Err(HostFail::Failed);
-        }
-        let (symbol, node) = self.witness(alloc, formula, variable, scope)?;
-        let inner = self.routes_under(alloc, variable, node, body, scope, depth - 1)?;
-        self.through(alloc, Part::Witness(symbol), &inner)
-    }
-
-    // Those of a body in which one more variable is bound, for which this node stands.
-    #[cycle(routing)]
-    fn routes_under(
-        &mut self,
-        alloc: Global,
-        variable: &Term,
-        node: usize,
-        body: Signed<'_>,
-        scope: &mut Vec<Scoped>,
-        depth: u32,
-    ) -> Result<Vec<usize>, HostFail> {
-        if depth == 0 {
-            return Err(HostFail::Failed);
-        }
-        let variable = variable.copy(alloc)?;
+        let (part, node) = if of.for_all {
+            self.instance(alloc, of.variable)?
+        } else {
+            self.witness(alloc, formula, of.variable, scope)?
+        };
+        let variable = of.variable.copy(alloc)?;
         scope.push(Scoped { variable, node })?;
-        let routes = self.routes_of(alloc, body, scope, depth - 1);
+        let inner = self.routes_of(alloc, of.body, scope, depth);
         scope.pop();
-        routes
+        self.through(part, inner?)
     }
 
-    // The symbol and the node of a witness for the variable of a formula, as a function of the quantified variables that stand in it.
+    // The part and the node of a new quantified variable.
+    fn instance(&mut self, alloc: Global, variable: &Term) -> Result<(Part, usize), HostFail> {
+        let number = add(&mut self.quantified, variable.copy(alloc)?)?;
+        let node = self.terms.variable(alloc, number, variable.ty())?;
+        Ok((Part::Instance(number), node))
+    }
+
+    // The part and the node of a witness for the variable of a formula, as a function of the quantified variables that stand in it.
     fn witness(
         &mut self,
         alloc: Global,
         formula: &Term,
         variable: &Term,
         scope: &[Scoped],
-    ) -> Result<(usize, usize), HostFail> {
+    ) -> Result<(Part, usize), HostFail> {
         let parameters = self.quantified_in(alloc, formula, scope)?;
         let nodes = self.nodes_of(alloc, &parameters)?;
-        self.terms.witness(alloc, variable, parameters, &nodes)
+        let (symbol, node) = self.terms.witness(alloc, variable, parameters, &nodes)?;
+        Ok((Part::Witness(symbol), node))
     }
 
     // The numbers of the quantified variables in what the free variables of a formula stand for.
@@ -322,7 +317,7 @@ impl Problem {
     ) -> Result<Vec<usize>, HostFail> {
         let mut numbers = Vec::new(alloc);
         for scoped in scope {
-            if free_in(&scoped.variable, formula) && is_innermost(scope, scoped) {
+            if is_free(scope, scoped, formula) {
                 self.terms.add_variables(scoped.node, &mut numbers, DEPTH)?;
             }
         }
@@ -342,41 +337,20 @@ impl Problem {
     }
 
     // Those of two facts.
-    fn facts(
-        &mut self,
-        alloc: Global,
-        first: &[usize],
-        second: &[usize],
-    ) -> Result<Vec<usize>, HostFail> {
-        let mut routes = Vec::new(alloc);
-        self.add_through(Part::Side(true), first, &mut routes)?;
-        self.add_through(Part::Side(false), second, &mut routes)?;
+    fn facts(&mut self, first: Vec<usize>, second: Vec<usize>) -> Result<Vec<usize>, HostFail> {
+        let mut routes = self.through(Part::Side(true), first)?;
+        let mut others = self.through(Part::Side(false), second)?;
+        routes.append(&mut others)?;
         Ok(routes)
     }
 
-    // Routes that go through a part.
-    fn through(
-        &mut self,
-        alloc: Global,
-        part: Part,
-        inner: &[usize],
-    ) -> Result<Vec<usize>, HostFail> {
-        let mut routes = Vec::new(alloc);
-        self.add_through(part, inner, &mut routes)?;
-        Ok(routes)
-    }
-
-    fn add_through(
-        &mut self,
-        part: Part,
-        inner: &[usize],
-        routes: &mut Vec<usize>,
-    ) -> Result<(), HostFail> {
-        for route in inner {
-            let route = self.add_route(Route::Through(part, *route))?;
-            routes.push(route)?;
+    // The routes that go through a part to these.
+    fn through(&mut self, part: Part, inner: Vec<usize>) -> Result<Vec<usize>, HostFail> {
+        let mut routes = inner;
+        for route in routes.iter_mut() {
+            *route = add(&mut self.routes, Route::Through(part, *route))?;
         }
-        Ok(())
+        Ok(routes)
     }
 
     // Each of the left beside each of the right.
@@ -392,7 +366,7 @@ impl Problem {
         let mut routes = Vec::new(alloc);
         for first in left {
             for second in right {
-                routes.push(self.add_route(Route::Both(*first, *second))?)?;
+                routes.push(add(&mut self.routes, Route::Both(*first, *second))?)?;
             }
         }
         Ok(routes)

@@ -1,13 +1,13 @@
 // The axioms of equality, as formulas with proofs.
 
 use crate::first_order::{Symbol, Terms};
-use crate::problem::Problem;
+use crate::problem::{Given, Problem};
 use hol_host::HostFail;
 use hol_just::Just;
 use hol_model::Fault;
 use hol_tactics_forms::{
-    Derivation, assume, disch, eq_mp, fresh, generalize, mk_comb, mk_forall, mk_imp, push_copy,
-    refl, sym, trans,
+    Derivation, assume, disch, eq_mp, fresh, generalize, mk_comb, mk_forall, mk_imp, refl, sym,
+    trans,
 };
 use hol_terms::{Term, frees, mk_eq};
 use hol_types::Ty;
@@ -15,10 +15,10 @@ use std::alloc::Global;
 
 // A function or a predicate, with the types of the arguments that it has and of the result.
 #[derive(Drop)]
-struct Applied {
-    head: Term,
-    arguments: Vec<Ty>,
-    result: Ty,
+struct Applied<'a> {
+    head: &'a Term,
+    arguments: Vec<&'a Ty>,
+    result: &'a Ty,
 }
 
 // A formula with its proof.
@@ -31,53 +31,53 @@ struct Fact {
 /// Adds reflexivity and transitivity at each type at which there may be equations, and that each function and each predicate respects
 /// these. Where the clauses have no equation nothing is added.
 pub fn add_equality(alloc: Global, problem: &mut Problem) -> Result<(), HostFail> {
-    let mut types = equated_types(alloc, &problem.terms)?;
-    if types.is_empty() {
-        return Ok(());
-    }
-    let heads = applied_heads(alloc, &problem.terms)?;
-    for _ in 0..heads.len() {
-        add_results(alloc, &heads, &mut types)?;
-    }
-    add_axioms(alloc, problem, &types, &heads)
-}
-
-fn add_axioms(
-    alloc: Global,
-    problem: &mut Problem,
-    types: &[Ty],
-    heads: &[Applied],
-) -> Result<(), HostFail> {
-    for ty in types {
-        give(alloc, problem, reflexive(alloc, ty))?;
-        give(alloc, problem, transitive(alloc, ty))?;
-    }
-    for head in heads {
-        if contains_any(types, &head.arguments) {
-            give(alloc, problem, respected(alloc, head, types))?;
-        }
+    for axiom in axioms(alloc, &problem.terms)? {
+        let given = Given {
+            formula: axiom.formula,
+            proof: Some(axiom.proof),
+        };
+        problem.give(alloc, Ok(given))?;
     }
     Ok(())
 }
 
-fn give(
-    alloc: Global,
-    problem: &mut Problem,
-    fact: Result<Fact, HostFail>,
-) -> Result<(), HostFail> {
-    let Fact { formula, proof } = fact?;
-    problem.give(alloc, formula, Some(proof))
+fn axioms(alloc: Global, terms: &Terms) -> Result<Vec<Fact>, HostFail> {
+    let heads = applied_heads(alloc, terms)?;
+    let types = equated_types(alloc, terms, &heads)?;
+    axioms_at(alloc, &types, &heads)
 }
 
-// The types of the sides of equations.
-fn equated_types(alloc: Global, terms: &Terms) -> Result<Vec<Ty>, HostFail> {
+// The axioms at types, and those of the functions and predicates that have arguments of these.
+fn axioms_at(alloc: Global, types: &[&Ty], heads: &[Applied<'_>]) -> Result<Vec<Fact>, HostFail> {
+    let mut axioms = Vec::new(alloc);
+    for ty in types {
+        axioms.push(reflexive(alloc, ty)?)?;
+        axioms.push(transitive(alloc, ty)?)?;
+    }
+    for head in heads {
+        if contains_any(types, &head.arguments) {
+            axioms.push(respected(alloc, head, types)?)?;
+        }
+    }
+    Ok(axioms)
+}
+
+// The types of the sides of equations, also of those that follow from others.
+fn equated_types<'a>(
+    alloc: Global,
+    terms: &'a Terms,
+    heads: &[Applied<'a>],
+) -> Result<Vec<&'a Ty>, HostFail> {
     let mut types = Vec::new(alloc);
     for symbol in terms.symbols() {
         if let Symbol::Known { term, .. } = symbol {
             if let Some(side) = equated_type(term) {
-                types.push(side.copy(alloc)?)?;
+                types.push(side)?;
             }
         }
+    }
+    for _ in heads {
+        add_results(heads, &mut types)?;
     }
     Ok(types)
 }
@@ -94,7 +94,7 @@ fn equated_type(term: &Term) -> Option<&Ty> {
 }
 
 // Each symbol but equality that is applied, with the most arguments that it has.
-fn applied_heads(alloc: Global, terms: &Terms) -> Result<Vec<Applied>, HostFail> {
+fn applied_heads(alloc: Global, terms: &Terms) -> Result<Vec<Applied<'_>>, HostFail> {
     let most = terms.most_arguments(alloc)?;
     let mut heads = Vec::new(alloc);
     for (symbol, arguments) in terms.symbols().iter().zip(&most) {
@@ -111,48 +111,42 @@ fn applied_heads(alloc: Global, terms: &Terms) -> Result<Vec<Applied>, HostFail>
     Ok(heads)
 }
 
-impl Applied {
+impl<'a> Applied<'a> {
     // A term with so many arguments.
-    fn new(alloc: Global, head: &Term, count: u32) -> Result<Applied, HostFail> {
-        let mut applied = Applied {
-            head: head.copy(alloc)?,
-            arguments: Vec::new(alloc),
-            result: head.type_of(alloc)?,
-        };
+    fn new(alloc: Global, head: &'a Term, count: u32) -> Result<Applied<'a>, HostFail> {
+        let mut arguments = Vec::new(alloc);
+        let mut result = head.ty();
         for _ in 0..count {
-            applied.add_argument(alloc)?;
+            let Some((domain, codomain)) = result.dest_fun() else {
+                return Err(HostFail::Failed);
+            };
+            arguments.push(domain)?;
+            result = codomain;
         }
-        Ok(applied)
-    }
-
-    // One argument more.
-    fn add_argument(&mut self, alloc: Global) -> Result<(), HostFail> {
-        let ty = self.result.copy(alloc)?;
-        let Some((domain, codomain)) = ty.dest_fun() else {
-            return Err(HostFail::Failed);
-        };
-        self.result = codomain.copy(alloc)?;
-        self.arguments.push(domain.copy(alloc)?)?;
-        Ok(())
+        Ok(Applied {
+            head,
+            arguments,
+            result,
+        })
     }
 }
 
-fn contains(types: &[Ty], ty: &Ty) -> bool {
+fn contains(types: &[&Ty], ty: &Ty) -> bool {
     types.iter().any(|known| known.eq(ty))
 }
 
-fn contains_any(types: &[Ty], wanted: &[Ty]) -> bool {
+fn contains_any(types: &[&Ty], wanted: &[&Ty]) -> bool {
     wanted.iter().any(|ty| contains(types, ty))
 }
 
 // Adds the types of results of functions of which an argument may be equated.
-fn add_results(alloc: Global, heads: &[Applied], types: &mut Vec<Ty>) -> Result<(), HostFail> {
+fn add_results<'a>(heads: &[Applied<'a>], types: &mut Vec<&'a Ty>) -> Result<(), HostFail> {
     for head in heads {
         if !head.result.is_bool()
             && contains_any(types, &head.arguments)
-            && !contains(types, &head.result)
+            && !contains(types, head.result)
         {
-            types.push(head.result.copy(alloc)?)?;
+            types.push(head.result)?;
         }
     }
     Ok(())
@@ -208,107 +202,135 @@ fn transitive_at(alloc: Global, x: &Term, y: &Term, z: &Term) -> Result<Fact, Ho
     discharged(alloc, &first, discharged(alloc, &second, joined))
 }
 
-// An equation with its proof, the premises that this is from, its variables, and with them those that were free before.
+// An argument on the two sides of an equation: the same variable on both, or two with the premise that they are equal.
 #[derive(Drop)]
-struct Congruence {
+struct Argument {
     left: Term,
     right: Term,
-    proof: Just,
-    premises: Vec<Term>,
-    variables: Vec<Term>,
-    avoid: Vec<Term>,
+    premise: Option<Term>,
 }
 
-impl Congruence {
-    // `head = head`.
-    fn new(alloc: Global, head: &Term) -> Result<Congruence, HostFail> {
-        Ok(Congruence {
-            left: head.copy(alloc)?,
-            right: head.copy(alloc)?,
-            proof: refl(alloc, head)?,
-            avoid: frees(alloc, head)?,
-            premises: Vec::new(alloc),
-            variables: Vec::new(alloc),
+// A new variable.
+fn variable(alloc: Global, name: &str, ty: &Ty, avoid: &mut Vec<Term>) -> Result<Term, HostFail> {
+    let named = Term::mk_var(alloc, name, ty)?;
+    Ok(fresh(alloc, avoid, &named)?)
+}
+
+impl Argument {
+    // Of new variables of a type.
+    fn new(
+        alloc: Global,
+        ty: &Ty,
+        is_equated: bool,
+        avoid: &mut Vec<Term>,
+    ) -> Result<Argument, HostFail> {
+        let left = variable(alloc, "x", ty, avoid)?;
+        if !is_equated {
+            let right = left.copy(alloc)?;
+            return Ok(Argument {
+                left,
+                right,
+                premise: None,
+            });
+        }
+        let right = variable(alloc, "y", ty, avoid)?;
+        let premise = mk_eq(alloc, &left, &right)?;
+        Ok(Argument {
+            left,
+            right,
+            premise: Some(premise),
         })
     }
 
-    fn fresh(&mut self, alloc: Global, name: &str, ty: &Ty) -> Result<Term, HostFail> {
-        let named = Term::mk_var(alloc, name, ty)?;
-        let variable = fresh(alloc, &mut self.avoid, &named)?;
-        push_copy(alloc, &variable, &mut self.variables)?;
-        Ok(variable)
-    }
-
-    // MK_COMB: the sides applied to x and y, which are equal.
-    fn apply(
-        &mut self,
-        alloc: Global,
-        x: &Term,
-        y: &Term,
-        equal: Derivation,
-    ) -> Result<(), HostFail> {
-        let proof = self.proof.copy(alloc)?;
-        self.proof = mk_comb(alloc, Ok(proof), equal)?;
-        self.left = Term::mk_comb(alloc, &self.left, x)?;
-        self.right = Term::mk_comb(alloc, &self.right, y)?;
-        Ok(())
-    }
-
-    // Applies the sides to two variables, by the premise that these are equal.
-    fn apply_equal(&mut self, alloc: Global, ty: &Ty) -> Result<(), HostFail> {
-        let y = self.fresh(alloc, "y", ty)?;
-        let x = self.fresh(alloc, "x", ty)?;
-        let premise = mk_eq(alloc, &x, &y)?;
-        push_copy(alloc, &premise, &mut self.premises)?;
-        self.apply(alloc, &x, &y, assume(alloc, &premise))
-    }
-
-    // Applies the sides to arguments of these types: where there are no equations, both to the same variable.
-    fn apply_all(
-        &mut self,
-        alloc: Global,
-        arguments: &[Ty],
-        equated: &[Ty],
-    ) -> Result<(), HostFail> {
-        for argument in arguments {
-            if contains(equated, argument) {
-                self.apply_equal(alloc, argument)?;
-            } else {
-                let x = self.fresh(alloc, "x", argument)?;
-                self.apply(alloc, &x, &x, refl(alloc, &x))?;
-            }
+    // That the two are equal.
+    fn equal(&self, alloc: Global) -> Derivation {
+        match &self.premise {
+            Some(premise) => assume(alloc, premise),
+            None => refl(alloc, &self.left),
         }
-        Ok(())
     }
+}
 
-    // The equation; of one of formulas, that the left one implies the right one.
-    fn concluded(&self, alloc: Global, are_formulas: bool) -> Result<Fact, HostFail> {
-        let proof = self.proof.copy(alloc)?;
-        if are_formulas {
-            let right = eq_mp(alloc, Ok(proof), assume(alloc, &self.left));
-            return discharged(alloc, &self.left, fact_of(self.right.copy(alloc), right));
-        }
-        fact_of(mk_eq(alloc, &self.left, &self.right), Ok(proof))
+// Arguments of these types: where there are no equations, the same on both sides.
+fn arguments(
+    alloc: Global,
+    head: &Applied<'_>,
+    equated: &[&Ty],
+) -> Result<Vec<Argument>, HostFail> {
+    let mut avoid = frees(alloc, head.head)?;
+    let mut arguments = Vec::new(alloc);
+    for ty in &head.arguments {
+        let is_equated = contains(equated, ty);
+        arguments.push(Argument::new(alloc, ty, is_equated, &mut avoid)?)?;
     }
+    Ok(arguments)
+}
 
-    // A fact with the premises as antecedents and the variables bound.
-    fn closed(&self, alloc: Global, of: Result<Fact, HostFail>) -> Result<Fact, HostFail> {
-        let mut fact = of;
-        for premise in self.premises.iter().rev() {
+// The function applied to its arguments on one side.
+fn side(
+    alloc: Global,
+    function: &Term,
+    arguments: &[Argument],
+    is_left: bool,
+) -> Result<Term, HostFail> {
+    let mut side = function.copy(alloc)?;
+    for argument in arguments {
+        let term = if is_left {
+            &argument.left
+        } else {
+            &argument.right
+        };
+        side = Term::mk_comb(alloc, &side, term)?;
+    }
+    Ok(side)
+}
+
+// MK_COMB: that the sides are equal, from the premises.
+fn congruent(alloc: Global, function: &Term, arguments: &[Argument]) -> Derivation {
+    let mut equal = refl(alloc, function);
+    for argument in arguments {
+        equal = mk_comb(alloc, equal, argument.equal(alloc));
+    }
+    equal
+}
+
+// The equation of the sides; where they are formulas, that the left one implies the right one.
+fn concluded(alloc: Global, head: &Applied<'_>, arguments: &[Argument]) -> Result<Fact, HostFail> {
+    let left = side(alloc, head.head, arguments, true)?;
+    let right = side(alloc, head.head, arguments, false)?;
+    let equal = congruent(alloc, head.head, arguments);
+    if head.result.is_bool() {
+        let follows = eq_mp(alloc, equal, assume(alloc, &left));
+        return discharged(alloc, &left, fact_of(Ok(right), follows));
+    }
+    fact_of(mk_eq(alloc, &left, &right), equal)
+}
+
+// A fact with the premises as antecedents and the variables bound.
+fn closed(
+    alloc: Global,
+    arguments: &[Argument],
+    of: Result<Fact, HostFail>,
+) -> Result<Fact, HostFail> {
+    let mut fact = of;
+    for argument in arguments.iter().rev() {
+        if let Some(premise) = &argument.premise {
             fact = discharged(alloc, premise, fact);
         }
-        for variable in &self.variables {
-            fact = generalized(alloc, variable, fact);
-        }
-        fact
     }
+    for argument in arguments {
+        if argument.premise.is_some() {
+            fact = generalized(alloc, &argument.right, fact);
+        }
+        fact = generalized(alloc, &argument.left, fact);
+    }
+    fact
 }
 
 // `!x. !y. x = y ==> .. ==> f x .. = f y ..`, of a predicate `.. ==> P x .. ==> P y ..`. An argument of a type without equations is
 // the same on both sides.
-fn respected(alloc: Global, head: &Applied, types: &[Ty]) -> Result<Fact, HostFail> {
-    let mut congruence = Congruence::new(alloc, &head.head)?;
-    congruence.apply_all(alloc, &head.arguments, types)?;
-    let fact = congruence.concluded(alloc, head.result.is_bool());
-    congruence.closed(alloc, fact)
+fn respected(alloc: Global, head: &Applied<'_>, types: &[&Ty]) -> Result<Fact, HostFail> {
+    let arguments = arguments(alloc, head, types)?;
+    let fact = concluded(alloc, head, &arguments);
+    closed(alloc, &arguments, fact)
 }

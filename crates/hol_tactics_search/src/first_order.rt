@@ -47,6 +47,13 @@ struct Typed {
     ty: Option<usize>,
 }
 
+/// Adds it to all, and answers its number.
+pub(crate) fn add<T: Drop>(all: &mut Vec<T>, new: T) -> Result<usize, HostFail> {
+    let number = all.len();
+    all.push(new)?;
+    Ok(number)
+}
+
 /// All nodes, the symbols and the types, each by number.
 #[derive(Drop)]
 pub struct Terms {
@@ -97,9 +104,7 @@ impl Terms {
     }
 
     fn push(&mut self, node: Node, ty: Option<usize>) -> Result<usize, HostFail> {
-        let number = self.nodes.len();
-        self.nodes.push(Typed { node, ty })?;
-        Ok(number)
+        add(&mut self.nodes, Typed { node, ty })
     }
 
     // The number of a type, which is added if it is new.
@@ -107,9 +112,7 @@ impl Terms {
         if let Some(number) = self.types.iter().position(|known| known.eq(ty)) {
             return Ok(number);
         }
-        let number = self.types.len();
-        self.types.push(ty.copy(alloc)?)?;
-        Ok(number)
+        add(&mut self.types, ty.copy(alloc)?)
     }
 
     // The number of the symbol of a term with so many parameters, which is added if it is new.
@@ -122,12 +125,8 @@ impl Terms {
         if let Some(number) = place_of_symbol(&self.symbols, term, parameters) {
             return Ok(number);
         }
-        let number = self.symbols.len();
-        self.symbols.push(Symbol::Known {
-            term: term.copy(alloc)?,
-            parameters,
-        })?;
-        Ok(number)
+        let term = term.copy(alloc)?;
+        add(&mut self.symbols, Symbol::Known { term, parameters })
     }
 
     /// The variable of this number and type.
@@ -144,11 +143,11 @@ impl Terms {
         parameters: Vec<usize>,
         nodes: &[usize],
     ) -> Result<(usize, usize), HostFail> {
-        let symbol = self.symbols.len();
-        self.symbols.push(Symbol::Witness {
+        let new = Symbol::Witness {
             variable: variable.copy(alloc)?,
             parameters,
-        })?;
+        };
+        let symbol = add(&mut self.symbols, new)?;
         let node = self.applied(alloc, symbol, nodes, variable.ty())?;
         Ok((symbol, node))
     }
@@ -311,7 +310,7 @@ fn closed(
 ) -> Result<Term, HostFail> {
     let mut closed = term.copy(alloc)?;
     for scoped in scope.iter().rev() {
-        if free_in(&scoped.variable, term) && is_innermost(scope, scoped) {
+        if is_free(scope, scoped, term) {
             closed = Term::mk_abs(alloc, &scoped.variable, &closed)?;
             parameters.push(scoped.node)?;
         }
@@ -344,10 +343,10 @@ fn innermost<'a>(scope: &'a [Scoped], variable: &Term) -> Option<&'a Scoped> {
         .find(|scoped| aconv(&scoped.variable, variable))
 }
 
-/// Whether no binder further in binds the same variable.
-pub fn is_innermost(scope: &[Scoped], scoped: &Scoped) -> bool {
+/// Whether the variable is free in a term, and no binder further in binds the same one.
+pub fn is_free(scope: &[Scoped], scoped: &Scoped, term: &Term) -> bool {
     match innermost(scope, &scoped.variable) {
-        Some(other) => other.node == scoped.node,
+        Some(other) => other.node == scoped.node && free_in(&scoped.variable, term),
         None => false,
     }
 }

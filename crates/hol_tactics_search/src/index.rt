@@ -37,11 +37,12 @@ impl Row {
     }
 
     fn add(&mut self, entry: Entry, positive: bool) -> Result<(), HostFail> {
-        if positive {
-            self.affirmed.push(entry)?;
+        let entries = if positive {
+            &mut self.affirmed
         } else {
-            self.denied.push(entry)?;
-        }
+            &mut self.denied
+        };
+        entries.push(entry)?;
         Ok(())
     }
 }

@@ -1,7 +1,10 @@
 // What is given, as clauses.
 
 use crate::first_order::Terms;
+use hol_host::HostFail;
 use hol_just::Just;
+use hol_model::Fault;
+use hol_tactics_forms::Derivation;
 use hol_terms::Term;
 use std::alloc::Global;
 
@@ -39,6 +42,23 @@ pub enum Route {
 pub struct Given {
     pub formula: Term,
     pub proof: Option<Just>,
+}
+
+impl Given {
+    /// A formula that is assumed.
+    pub fn assumed(formula: Result<Term, Fault>) -> Result<Given, HostFail> {
+        Ok(Given {
+            formula: formula?,
+            proof: None,
+        })
+    }
+
+    /// A formula that is proved.
+    pub fn proved(formula: Result<Term, Fault>, proof: Derivation) -> Result<Given, HostFail> {
+        let formula = formula?;
+        let proof = Some(proof?);
+        Ok(Given { formula, proof })
+    }
 }
 
 /// Literals of which one holds, for all values of the variables.

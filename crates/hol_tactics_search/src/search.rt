@@ -5,6 +5,7 @@ use crate::problem::{Literal, Problem};
 use crate::unification::{Bindings, Instance, Mark};
 use hol_host::HostFail;
 use std::alloc::Global;
+use std::mem::replace;
 
 /// How many inferences a refutation may have.
 pub const INFERENCES: usize = 59;
@@ -166,14 +167,9 @@ pub fn find_refutation(
 ) -> Result<Refutation, HostFail> {
     let index = Index::of(alloc, problem)?;
     let mut search = Search::new(alloc, problem, &index, *comparisons);
-    let start = search.deepened()?;
-    let moves = search.in_order(alloc, start)?;
-    *comparisons = comparisons.saturating_sub(search.bindings.spent);
-    Ok(Refutation {
-        start,
-        moves,
-        bindings: search.bindings,
-    })
+    let found = search.refutation(alloc);
+    *comparisons = search.comparisons;
+    found
 }
 
 // Whether each literal of a clause is denied: among those that cannot hold together there is such a clause.
@@ -198,6 +194,18 @@ impl<'a> Search<'a> {
             bindings: Bindings::new(alloc),
             first: None,
         }
+    }
+
+    // The refutation, without its comparisons.
+    fn refutation(&mut self, alloc: Global) -> Result<Refutation, HostFail> {
+        let start = self.deepened()?;
+        let moves = self.in_order(alloc, start)?;
+        self.comparisons = self.comparisons.saturating_sub(self.bindings.spent);
+        Ok(Refutation {
+            start,
+            moves,
+            bindings: replace(&mut self.bindings, Bindings::new(alloc)),
+        })
     }
 
     // The first clause of a refutation that has as few inferences as can be.
@@ -255,12 +263,7 @@ impl<'a> Search<'a> {
         self.bindings.clear();
         self.first = None;
         let base = self.instance(start)?;
-        self.add_subgoals(start, base, None, None)?;
-        let all = Run {
-            first: 0,
-            count: self.subgoals.len(),
-        };
-        self.add_group(all, self.size)
+        self.add_subgoals(start, base, None, None, self.size)
     }
 
     fn go_back(&mut self, choice: Choice) {
@@ -279,17 +282,19 @@ impl<'a> Search<'a> {
         }
     }
 
-    // Adds the literals of a clause as subgoals, without the one that the subgoal above them was met by.
+    // Adds the literals of a clause as a group, without the one that the subgoal above them was met by.
     fn add_subgoals(
         &mut self,
         clause: usize,
         base: usize,
         parent: Option<usize>,
         used: Option<usize>,
+        limit: usize,
     ) -> Result<(), HostFail> {
         let Some(clause) = self.problem.clause(clause) else {
             return Err(HostFail::Failed);
         };
+        let first = self.subgoals.len();
         let under = self.moves.len().checked_sub(1);
         for (place, literal) in clause.literals.iter().enumerate() {
             if Some(place) != used {
@@ -304,7 +309,8 @@ impl<'a> Search<'a> {
                 })?;
             }
         }
-        Ok(())
+        let count = self.subgoals.len().saturating_sub(first);
+        self.add_group(Run { first, count }, limit)
     }
 
     // Puts a group, unless it is empty, before what is to be met.
@@ -364,22 +370,21 @@ impl<'a> Search<'a> {
         let room = group.limit.saturating_sub(self.subgoals.len());
         let less = self.subgoals.len().saturating_add(room / PARTS);
         self.first = group.next;
-        if room < ROOM {
+        let (first, last, limit) = if room < ROOM {
             let (one, others) = group.cut(1);
-            self.add_group(others, group.limit)?;
-            self.add_group(one, group.limit)?;
-            return Ok(true);
-        }
-        let (half, others) = group.cut(group.count / 2);
-        let (last, first) = if matches!(untried, Untried::Second) {
-            (half, others)
+            (one, others, group.limit)
         } else {
-            let choice = self.choice(number, Untried::Second);
-            self.choices.push(choice)?;
-            (others, half)
+            let (half, others) = group.cut(group.count / 2);
+            if matches!(untried, Untried::Second) {
+                (others, half, less)
+            } else {
+                let choice = self.choice(number, Untried::Second);
+                self.choices.push(choice)?;
+                (half, others, less)
+            }
         };
         self.add_group(last, group.limit)?;
-        self.add_group(first, less)?;
+        self.add_group(first, limit)?;
         Ok(true)
     }
 
@@ -391,10 +396,9 @@ impl<'a> Search<'a> {
             let Some(ancestor) = self.subgoal(above) else {
                 return Ok(false);
             };
+            let atoms = (subgoal.atom(), ancestor.atom());
             if ancestor.literal.positive == subgoal.literal.positive
-                && self
-                    .bindings
-                    .are_equal(&problem.terms, subgoal.atom(), ancestor.atom(), false)?
+                && self.bindings.are_equal(&problem.terms, atoms, false)?
             {
                 return Ok(true);
             }
@@ -451,64 +455,62 @@ impl<'a> Search<'a> {
     }
 
     // Makes two atoms equal; where they cannot be, all is as it was at the mark.
-    fn unify(&mut self, a: Instance, b: Instance, mark: Mark) -> Result<bool, HostFail> {
+    fn unify(&mut self, atoms: (Instance, Instance), mark: Mark) -> Result<bool, HostFail> {
         let problem = self.problem;
-        let are_unified = self.bindings.are_equal(&problem.terms, a, b, true)?;
+        let are_unified = self.bindings.are_equal(&problem.terms, atoms, true)?;
         if !are_unified {
             self.bindings.undo(mark);
         }
         Ok(are_unified)
     }
 
+    // Notes the move that meets a subgoal. Where it brings no subgoals and nothing was set, no other way serves better.
+    fn take(
+        &mut self,
+        open: Open,
+        choice: Choice,
+        by: Move,
+        has_others: bool,
+    ) -> Result<(), HostFail> {
+        if has_others || self.bindings.has_set_since(choice.mark) {
+            self.choices.push(choice)?;
+        }
+        self.first = open.next;
+        self.moves.push(Met {
+            place: open.subgoal.place,
+            by,
+        })?;
+        Ok(())
+    }
+
     // Meets a subgoal by one above it, if the two contradict each other.
     fn reduce(&mut self, open: Open, ancestor: Subgoal) -> Result<bool, HostFail> {
         let choice = self.choice(open.group, Untried::Above(ancestor.parent));
-        if !self.unify(open.subgoal.atom(), ancestor.atom(), choice.mark)? {
+        if !self.unify((open.subgoal.atom(), ancestor.atom()), choice.mark)? {
             return Ok(false);
         }
-        // Where nothing was set, no other way serves better.
-        if self.bindings.has_set_since(choice.mark) {
-            self.choices.push(choice)?;
-        }
-        self.moves.push(Met {
-            place: open.subgoal.place,
-            by: Move::Reduce,
-        })?;
-        self.first = open.next;
+        self.take(open, choice, Move::Reduce, false)?;
         Ok(true)
     }
 
     // Meets a subgoal by the literal at this place, if the two contradict each other.
     fn extend(&mut self, open: Open, entry: Entry, place: usize) -> Result<bool, HostFail> {
         let choice = self.choice(open.group, Untried::Literals(place.saturating_add(1)));
-        let base = self.instance(entry.clause)?;
-        let atom = Instance {
-            node: entry.atom,
-            base,
-        };
-        if !self.unify(open.subgoal.atom(), atom, choice.mark)? {
-            return Ok(false);
-        }
-        if entry.others > 0 || self.bindings.has_set_since(choice.mark) {
-            self.choices.push(choice)?;
-        }
         let extension = Extension {
             clause: entry.clause,
             literal: entry.literal,
-            base,
+            base: self.instance(entry.clause)?,
         };
-        self.moves.push(Met {
-            place: open.subgoal.place,
-            by: Move::Extend(extension),
-        })?;
-        self.first = open.next;
-        let first = self.subgoals.len();
-        self.add_subgoals(entry.clause, base, Some(open.number), Some(entry.literal))?;
-        let others = Run {
-            first,
-            count: entry.others,
+        let atom = Instance {
+            node: entry.atom,
+            base: extension.base,
         };
-        self.add_group(others, open.limit)?;
+        if !self.unify((open.subgoal.atom(), atom), choice.mark)? {
+            return Ok(false);
+        }
+        self.take(open, choice, Move::Extend(extension), entry.others > 0)?;
+        let (parent, used) = (Some(open.number), Some(entry.literal));
+        self.add_subgoals(entry.clause, extension.base, parent, used, open.limit)?;
         Ok(true)
     }
 

@@ -129,17 +129,16 @@ impl Bindings {
     pub(crate) fn are_equal(
         &mut self,
         terms: &Terms,
-        a: Instance,
-        b: Instance,
+        pair: (Instance, Instance),
         may_set: bool,
     ) -> Result<bool, HostFail> {
         self.pairs.clear();
-        self.pairs.push((a, b))?;
+        self.pairs.push(pair)?;
         for _ in 0..PAIRS {
-            let Some((a, b)) = self.pairs.pop() else {
+            let Some(pair) = self.pairs.pop() else {
                 return Ok(true);
             };
-            if !self.meet_heads(terms, a, b, may_set)? {
+            if !self.meet_heads(terms, pair, may_set)? {
                 return Ok(false);
             }
         }
@@ -150,23 +149,22 @@ impl Bindings {
     fn meet_heads(
         &mut self,
         terms: &Terms,
-        a: Instance,
-        b: Instance,
+        pair: (Instance, Instance),
         may_set: bool,
     ) -> Result<bool, HostFail> {
         self.spent = self.spent.saturating_add(1);
-        let a = self.resolved(terms, a);
-        let b = self.resolved(terms, b);
+        let a = self.resolved(terms, pair.0);
+        let b = self.resolved(terms, pair.1);
         let (left, right) = (terms.node(a.node), terms.node(b.node));
         if let Node::Variable(number) = left {
             let at = place(a.base, number);
             if matches!(right, Node::Variable(other) if place(b.base, other) == at) {
                 return Ok(true);
             }
-            return Ok(may_set && self.bind(terms, at, a, b)?);
+            return self.bind(terms, at, a, b, may_set);
         }
         if let Node::Variable(number) = right {
-            return Ok(may_set && self.bind(terms, place(b.base, number), b, a)?);
+            return self.bind(terms, place(b.base, number), b, a, may_set);
         }
         match (left, right) {
             (Node::Symbol(x), Node::Symbol(y)) => Ok(x == y),
@@ -179,15 +177,17 @@ impl Bindings {
         }
     }
 
-    // Gives the variable at a place its value, where the types are the same and the variable is not in it.
+    // Gives the variable at a place its value, where it may be set, the types are the same and the variable is not in it.
     fn bind(
         &mut self,
         terms: &Terms,
         at: usize,
         variable: Instance,
         value: Instance,
+        may_set: bool,
     ) -> Result<bool, HostFail> {
-        if terms.type_number(variable.node) != terms.type_number(value.node)
+        if !may_set
+            || terms.type_number(variable.node) != terms.type_number(value.node)
             || self.occurs(terms, at, value)?
         {
             return Ok(false);
