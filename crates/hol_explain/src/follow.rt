@@ -3,21 +3,19 @@ ghost use Rattle.std.specs.Prelude.{◌≡◌, ◌∷◌, ℕ, [], false, IfErr,
 ghost use Rattle.hol_model.specs.declared.fault.Fault.TheVariants.{Memory, WriteFault};
 ghost use Rattle.hol_script.specs.Managers.{IsManager};
 
+use crate::rerun::Rerun;
 use crate::walk::{Script, Walk, explain_piece, explain_rest};
-use hol_explain_hints::{Known, Place};
+use hol_explain_hints::Place;
 use hol_host::Refiners;
 use hol_model::{Fault, Sink};
-use hol_script::Manager;
 use hol_script_commands::cut::is_blank_text;
 use std::alloc::Global;
 use std::marker::Model;
 
-/// What follows a conversation: a proof manager of its own, the names that are known to it, and the place of the next command.
-/// Contracts see nothing of it.
+/// What follows a conversation: its commands, run once more, and the place of the next one. Contracts see nothing of it.
 #[derive(Drop)]
 pub struct Follower {
-    known: Known,
-    manager: Manager,
+    rerun: Rerun,
     place: Place,
 }
 
@@ -26,56 +24,38 @@ impl Model for Follower {
 
     ghost view = { λ _. 0 };
 
-    ghost invariant = { λ follower. IsManager follower.manager };
+    ghost invariant = { λ follower. IsManager follower.rerun.manager };
 }
 
 impl Follower {
     /// Where a conversation begins. Refused: Memory.
     pub fn new(alloc: Global) -> Result<Follower, Fault> {
-        let Ok(known) = Known::new(alloc) else {
-            return Err(Fault::Memory);
-        };
-        let Ok(manager) = Manager::new(alloc) else {
-            return Err(Fault::Memory);
-        };
         Ok(Follower {
-            known,
-            manager,
+            rerun: Rerun::new(alloc)?,
             place: Place::start(),
         })
     }
 
     /// Runs the command that is the text of a script, up to its `;;`, and writes a message, as `explain` does, where it is refused.
-    /// Refused: Memory, and WriteFault where the sink failed; then nothing follows any more.
+    /// Refused: Memory, and WriteFault where the sink failed; then the place of the next command is not known any more.
     pub fn follow<W: Sink, H: Refiners>(
-        self,
+        &mut self,
         alloc: Global,
         script: &Script<'_>,
         host: &H,
         writer: &mut W,
-    ) -> Result<Follower, Fault>
+    ) -> Result<(), Fault>
         requires { W.has_failed writer.old ≡ false }
         ensures refusals { IfErr result (Contains (WriteFault ∷ Memory ∷ [])) }
         ensures unfailed { OnOk result (W.has_failed writer.new ≡ false) }
     {
-        let Follower {
-            mut known,
-            mut manager,
-            place,
-        } = self;
         let walk = Walk::new(alloc, script, host);
         if !is_blank_text(script.text) {
-            match explain_piece(&walk, writer, &mut known, &mut manager, script.text, &place) {
-                Ok(_is_refused) => {}
-                Err(fault) => return Err(fault),
-            }
+            let Rerun { known, manager } = &mut self.rerun;
+            explain_piece(&walk, writer, known, manager, script.text, &self.place)?;
         }
-        let place = place.behind(script.text).behind(b";;");
-        Ok(Follower {
-            known,
-            manager,
-            place,
-        })
+        self.place = self.place.behind(script.text).behind(b";;");
+        Ok(())
     }
 
     /// Writes a message where the text of a script, behind which no `;;` comes any more, holds more than white space. Refused:
@@ -90,10 +70,10 @@ impl Follower {
         requires { W.has_failed writer.old ≡ false }
         ensures { IfErr result (Contains (WriteFault ∷ Memory ∷ [])) }
     {
-        let walk = Walk::new(alloc, script, host);
-        match explain_rest(&walk, writer, script.text, &self.place) {
-            Ok(_is_refused) => Ok(()),
-            Err(fault) => Err(fault),
+        if is_blank_text(script.text) {
+            return Ok(());
         }
+        let walk = Walk::new(alloc, script, host);
+        explain_rest(&walk, writer, script.text, &self.place)
     }
 }

@@ -6,6 +6,7 @@
 mod follow;
 mod message;
 mod notes;
+mod rerun;
 mod search;
 mod walk;
 

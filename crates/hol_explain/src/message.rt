@@ -92,7 +92,27 @@ fn of_expression<H: Refiners>(
     of_part(&inner, &part, message);
 }
 
-// Says what is known of a command that is refused in this state, of an `e` by its part that is refused.
+// Says what is known of a refused command of which nothing is said yet, of an `e` by its part that is refused.
+fn of_unsaid<H: Refiners>(
+    trial: &Trial<'_, H>,
+    manager: &mut Manager,
+    case: &Case<'_>,
+    message: &mut Message,
+)
+    requires { IsManager manager.old }
+    ensures { IsManager manager.new }
+{
+    if !message.is_empty() {
+        return;
+    }
+    if case.piece.text(0) == "e" {
+        of_expression(trial, manager, case, message);
+    } else {
+        plain(case, message);
+    }
+}
+
+// Says what is known of a command that is refused in this state.
 fn of_command<H: Refiners>(
     trial: &Trial<'_, H>,
     host_names: &[String],
@@ -118,14 +138,7 @@ fn of_command<H: Refiners>(
         },
     };
     of_case(&case, message);
-    if !message.is_empty() {
-        return;
-    }
-    if piece.text(0) == "e" {
-        of_expression(trial, manager, &case, message);
-    } else {
-        plain(&case, message);
-    }
+    of_unsaid(trial, manager, &case, message);
 }
 
 /// Says what is known of a command that is refused in this state, which stays but for what `b` can take back.

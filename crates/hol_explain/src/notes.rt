@@ -2,14 +2,13 @@
 ghost use Rattle.hol_script.specs.Managers.{IsManager};
 
 use crate::message::arguments_in;
-use crate::search::{Trial, open_goals, take_back};
+use crate::search::{Trial, open_goals};
 use hol_explain_hints::{
     Accepted, Known, Message, Span, Told, command_of, count_of_goals, next_rewriting, noted_span,
     push_notes, push_unchanged,
 };
 use hol_host::Refiners;
 use hol_script::Manager;
-use hol_script::execute::execute;
 
 // The open goals behind the first words of an expression, up to a place, which are taken back.
 fn goals_behind<H: Refiners>(
@@ -25,14 +24,12 @@ fn goals_behind<H: Refiners>(
         return open_goals(trial.alloc, manager, notes);
     }
     let text = command_of(trial.alloc, trial.piece, Span { from: 1, to }, notes);
-    match execute(manager, trial.alloc, trial.host, &text) {
-        Ok(_) => {
-            let goals = open_goals(trial.alloc, manager, notes);
-            take_back(trial, manager, 1);
-            goals
-        }
-        Err(_) => String::new(trial.alloc),
+    if !trial.run(manager, &text) {
+        return String::new(trial.alloc);
     }
+    let goals = open_goals(trial.alloc, manager, notes);
+    trial.run(manager, b"b");
+    goals
 }
 
 // Whether a part of an expression refines goals, and leaves each as it is.
@@ -86,9 +83,9 @@ fn unchanged_in<H: Refiners>(
     if trial.piece.text(0) != "e" || next_rewriting(trial.piece, 1).is_none() {
         return None;
     }
-    take_back(trial, manager, 1);
+    trial.run(manager, b"b");
     let found = first_unchanged(trial, manager, notes);
-    let _again = execute(manager, trial.alloc, trial.host, trial.piece.bytes);
+    trial.run(manager, trial.piece.bytes);
     found
 }
 

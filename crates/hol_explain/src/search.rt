@@ -18,6 +18,16 @@ pub(crate) struct Trial<'a, H> {
     pub(crate) piece: &'a Piece<'a>,
 }
 
+impl<H: Refiners> Trial<'_, H> {
+    /// Runs a command, and answers whether it is accepted.
+    pub(crate) fn run(&self, manager: &mut Manager, command: &[u8]) -> bool
+        requires { IsManager manager.old }
+        ensures { IsManager manager.new }
+    {
+        execute(manager, self.alloc, self.host, command).is_ok()
+    }
+}
+
 // What is refused inside an expression, for how many subgoals it is, how many steps were taken up to it, and whether it is to be
 // looked into further.
 #[derive(Clone, Copy)]
@@ -49,13 +59,11 @@ fn is_accepted<H: Refiners>(
     ensures { IsManager manager.new }
 {
     let text = command_of(trial.alloc, trial.piece, span, message);
-    match execute(manager, trial.alloc, trial.host, &text) {
-        Ok(_) => {
-            let _undone = execute(manager, trial.alloc, trial.host, b"b");
-            true
-        }
-        Err(_) => false,
+    if !trial.run(manager, &text) {
+        return false;
     }
+    trial.run(manager, b"b");
+    true
 }
 
 // The place in the list of the first joint up to which a part is refused, and of the one before it; the end of the part, where it
@@ -110,7 +118,7 @@ fn refused_member<H: Refiners>(
                 is_last: false,
             };
         }
-        let _turned = execute(manager, trial.alloc, trial.host, b"r 1");
+        trial.run(manager, b"r 1");
         steps = steps.saturating_add(1);
         member = next_member(trial.piece, behind, Some(member));
     }
@@ -135,7 +143,7 @@ fn behind_joint<H: Refiners>(
 {
     let before = open_goals(trial.alloc, manager, message);
     let text = command_of(trial.alloc, trial.piece, front, message);
-    let _done = execute(manager, trial.alloc, trial.host, &text);
+    trial.run(manager, &text);
     let after = open_goals(trial.alloc, manager, message);
     let done = count_of_goals(before.as_str());
     let subgoals = count_of_goals(after.as_str())
@@ -186,13 +194,13 @@ fn look_inside<H: Refiners>(
     }
 }
 
-/// Takes back so many commands.
-pub(crate) fn take_back<H: Refiners>(trial: &Trial<'_, H>, manager: &mut Manager, steps: usize)
+// Takes back so many commands.
+fn take_back<H: Refiners>(trial: &Trial<'_, H>, manager: &mut Manager, steps: usize)
     requires { IsManager manager.old }
     ensures { IsManager manager.new }
 {
     for _ in 0..steps {
-        let _undone = execute(manager, trial.alloc, trial.host, b"b");
+        trial.run(manager, b"b");
     }
 }
 

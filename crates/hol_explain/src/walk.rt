@@ -5,6 +5,7 @@ ghost use Rattle.hol_script.specs.Managers.{IsManager};
 
 use crate::message::explain_command;
 use crate::notes::note_command;
+use crate::rerun::Rerun;
 use crate::search::Trial;
 use hol_device_io::write_all;
 use hol_explain_hints::{
@@ -176,11 +177,18 @@ fn explain_begin<H: Refiners>(
     lines: &mut Message,
 ) {
     let told = walk.told(piece, &Place::start(), b";;");
-    let Some(known) = lines.made(Known::new(walk.alloc)) else {
-        return;
-    };
-    match Manager::new(walk.alloc) {
-        Ok(mut manager) => explain_refused(walk, &known, &mut manager, &told, refused, lines),
+    match Rerun::new(walk.alloc) {
+        Ok(mut rerun) => {
+            explain_refused(
+                walk,
+                &rerun.known,
+                &mut rerun.manager,
+                &told,
+                refused,
+                lines,
+            );
+            drop(rerun);
+        }
         Err(fault) => lines.push_made(Err(fault)),
     }
 }
@@ -223,7 +231,7 @@ pub(crate) fn explain_piece<W: Sink, H: Refiners>(
     requires unfailed { W.has_failed writer.old ≡ false }
     requires manager { IsManager manager.old }
     ensures unfailed { OnOk result (W.has_failed writer.new ≡ false) }
-    ensures manager { OnOk result (IsManager manager.new) }
+    ensures manager { IsManager manager.new }
     ensures refusals { IfErr result (Contains (WriteFault ∷ Memory ∷ [])) }
 {
     let Ok(piece) = Piece::new(walk.alloc, piece) else {
@@ -231,10 +239,8 @@ pub(crate) fn explain_piece<W: Sink, H: Refiners>(
     };
     let mut lines = Message::new(walk.alloc);
     let is_refused = answer(walk, known, manager, &piece, place, &mut lines);
-    match write_lines(writer, &lines) {
-        Ok(()) => Ok(is_refused),
-        Err(fault) => Err(fault),
-    }
+    write_lines(writer, &lines)?;
+    Ok(is_refused)
 }
 
 // Tells a rest without a mark behind it, which begins at a place.
@@ -244,28 +250,22 @@ fn tell_unended<H>(walk: &Walk<'_, H>, rest: &Piece<'_>, place: &Place, lines: &
     tell_refused(walk, &told, &Refused::plain(Fault::Syntax), &message, lines);
 }
 
-/// Writes what is told of a rest without a mark behind it, where it holds more than white space. Answers whether it does.
+/// Writes what is told of a rest without a mark behind it.
 pub(crate) fn explain_rest<W: Sink, H: Refiners>(
     walk: &Walk<'_, H>,
     writer: &mut W,
     rest: &[u8],
     place: &Place,
-) -> Result<bool, Fault>
+) -> Result<(), Fault>
     requires { W.has_failed writer.old ≡ false }
     ensures { IfErr result (Contains (WriteFault ∷ Memory ∷ [])) }
 {
-    if is_blank_text(rest) {
-        return Ok(false);
-    }
     let Ok(rest) = Piece::new(walk.alloc, rest) else {
         return Err(Fault::Memory);
     };
     let mut lines = Message::new(walk.alloc);
     tell_unended(walk, &rest, place, &mut lines);
-    match write_lines(writer, &lines) {
-        Ok(()) => Ok(true),
-        Err(fault) => Err(fault),
-    }
+    write_lines(writer, &lines)
 }
 
 // Runs the commands of a script, and writes what is told of each. Answers how many were refused.
@@ -287,18 +287,17 @@ fn explain_pieces<W: Sink, H: Refiners>(
             break;
         };
         if !is_blank_text(piece) {
-            match explain_piece(walk, writer, known, manager, piece, &place) {
-                Ok(is_refused) => refused = refused.saturating_add(is_refused as u64),
-                Err(fault) => return Err(fault),
-            }
+            let is_refused = explain_piece(walk, writer, known, manager, piece, &place)?;
+            refused = refused.saturating_add(is_refused as u64);
         }
         place = place.behind(piece).behind(b";;");
         rest = behind;
     }
-    match explain_rest(walk, writer, rest, &place) {
-        Ok(is_refused) => Ok(refused.saturating_add(is_refused as u64)),
-        Err(fault) => Err(fault),
+    if is_blank_text(rest) {
+        return Ok(refused);
     }
+    explain_rest(walk, writer, rest, &place)?;
+    Ok(refused.saturating_add(1))
 }
 
 // Walks over a script, over a proof manager of its own.
@@ -306,13 +305,10 @@ fn walk_over<W: Sink, H: Refiners>(walk: &Walk<'_, H>, writer: &mut W) -> Result
     requires { W.has_failed writer.old ≡ false }
     ensures { IfErr result (Contains (WriteFault ∷ Memory ∷ [])) }
 {
-    let Ok(mut known) = Known::new(walk.alloc) else {
-        return Err(Fault::Memory);
-    };
-    let Ok(mut manager) = Manager::new(walk.alloc) else {
-        return Err(Fault::Memory);
-    };
-    explain_pieces(walk, writer, &mut known, &mut manager)
+    let mut rerun = Rerun::new(walk.alloc)?;
+    let refused = explain_pieces(walk, writer, &mut rerun.known, &mut rerun.manager);
+    drop(rerun);
+    refused
 }
 
 /// Runs the commands of a script once more, over a proof manager of its own, and writes a message for each that is refused:

@@ -17,9 +17,9 @@ pub struct Case<'a> {
 }
 
 impl<'a> Case<'a> {
-    /// Says parts on the word at a place in the list.
-    pub(crate) fn say(&self, message: &mut Message, at: usize, parts: &[Said<'_>]) {
-        self.teller.say(message, self.piece.start(at), parts);
+    /// Says a text on the word at a place in the list, with parts in its holes.
+    pub(crate) fn say(&self, message: &mut Message, at: usize, text: &str, parts: &[Said<'_>]) {
+        self.teller.say(message, self.piece.start(at), text, parts);
     }
 
     /// The word of the rule of a `thm`.

@@ -60,21 +60,22 @@ pub(crate) fn push_conversion<'a>(
     let to = end_of_conversion(case.teller.alloc, piece, from, message);
     let span = Span { from, to };
     let Applied { span, term } = innermost(piece, Applied { span, term });
-    let (lead, wanted, joint) = match wanted(piece.text(span.from)) {
-        Some(wanted) => (" wants ", wanted, ", and is applied to "),
-        None => ("", "", " is applied to "),
-    };
     let end = piece.word(span.to.saturating_sub(1)).end;
     let conversion = text_of(between(piece.bytes, piece.start(span.from), end));
-    let parts = [
-        Text(": "),
-        Quoted(conversion),
-        Text(lead),
-        Text(wanted),
-        Text(joint),
-        Shown(term),
-    ];
-    case.teller.push(message, &parts);
-    message.at = piece.start(span.from);
-    push_given(case, span.from, ", and ", message);
+    match wanted(piece.text(span.from)) {
+        Some(wanted) => {
+            let parts = [Quoted(conversion), Text(wanted), Shown(term)];
+            case.say(
+                message,
+                span.from,
+                ": {} wants {}, and is applied to {}",
+                &parts,
+            );
+        }
+        None => {
+            let parts = [Quoted(conversion), Shown(term)];
+            case.say(message, span.from, ": {} is applied to {}", &parts);
+        }
+    }
+    push_given(case, span.from, ", and {}", message);
 }

@@ -37,8 +37,8 @@ fn feeds_itself(alloc: Global, fixed: &[Term], formula: &Term, message: &mut Mes
     let Parts::Combination(function, argument) = formula.parts() else {
         return false;
     };
-    match (function.parts(), argument.parts()) {
-        (Parts::Combination(operator, left), _) => match operator.dest_const() {
+    match function.parts() {
+        Parts::Combination(operator, left) => match operator.dest_const() {
             Some(("=", _)) => fits_part(alloc, fixed, left, argument, message),
             Some(("/\\", _)) => {
                 feeds_itself(alloc, fixed, left, message)
@@ -46,9 +46,10 @@ fn feeds_itself(alloc: Global, fixed: &[Term], formula: &Term, message: &mut Mes
             }
             _ => false,
         },
-        (Parts::Constant("!", _), Parts::Abstraction(_, _, body)) => {
-            feeds_itself(alloc, fixed, body, message)
-        }
+        Parts::Constant("!", _) => match argument.parts() {
+            Parts::Abstraction(_, _, body) => feeds_itself(alloc, fixed, body, message),
+            _ => false,
+        },
         _ => false,
     }
 }
@@ -64,6 +65,10 @@ fn is_endless(alloc: Global, premise: &Premise, message: &mut Message) -> bool {
     feeds_itself(alloc, &fixed, &premise.conclusion, message)
 }
 
+// What is said of such a theorem.
+const ENDLESS: &str =
+    "; {} applies to what it makes, as its left side matches a part of its right side: `CONV_TAC (ONCE_DEPTH_CONV (REWR_CONV {}))` uses it once";
+
 /// Puts the first theorem at the end by which a `REWRITE_TAC` may have no end, where it passes a limit.
 pub(crate) fn push_endless(case: &Case<'_>, message: &mut Message) {
     if !matches!(case.fault, Fault::StepLimit | Fault::TooLarge) {
@@ -73,17 +78,8 @@ pub(crate) fn push_endless(case: &Case<'_>, message: &mut Message) {
         if let Some(premise) = case.arguments.theorem(number) {
             if is_endless(case.teller.alloc, premise, message) {
                 let name = premise.name();
-                let parts = [
-                    Text("; "),
-                    Quoted(name),
-                    Text(
-                        " applies to what it makes, as its left side matches a part of its right side: ",
-                    ),
-                    Text("`CONV_TAC (ONCE_DEPTH_CONV (REWR_CONV "),
-                    Text(name),
-                    Text("))` uses it once"),
-                ];
-                case.teller.push(message, &parts);
+                case.teller
+                    .push(message, ENDLESS, &[Quoted(name), Text(name)]);
                 return;
             }
         }

@@ -74,28 +74,23 @@ impl Part {
 pub(crate) fn at_new_goal(case: &Case<'_>, message: &mut Message) {
     match case.arguments.term(0) {
         Some(found) if *case.fault == Fault::NotBool => {
-            let parts = [
-                Text("a goal is a formula, of type `bool`, and "),
-                Typed(&found.term),
-            ];
-            case.say(message, found.at, &parts);
+            let parts = [Typed(&found.term)];
+            case.say(
+                message,
+                found.at,
+                "a goal is a formula, of type `bool`, and {}",
+                &parts,
+            );
         }
         _ => {}
     }
 }
 
 // Puts what a refiner wants at the end, with the theorem that it was given, and why it does not take one.
-fn push_wanted<'a>(
-    case: &Case<'a>,
-    part: &Part,
-    span: Span,
-    words: (&'a str, &'a str),
-    message: &mut Message,
-) {
-    let word = case.piece.text(span.from);
-    let parts = [Text(words.0), Quoted(word), Text(" wants "), Text(words.1)];
-    case.teller.push(message, &parts);
-    push_given(case, span.from, ", ", message);
+fn push_wanted(case: &Case<'_>, part: &Part, span: Span, wanted: &str, message: &mut Message) {
+    let parts = [Quoted(case.piece.text(span.from)), Text(wanted)];
+    case.teller.push(message, "{} wants {}", &parts);
+    push_given(case, span.from, ", {}", message);
     match &part.goal {
         Some((assumptions, conclusion)) if *case.fault == Fault::RefineFails => {
             push_untaken(case, (assumptions.as_slice(), conclusion), span, message);
@@ -108,20 +103,13 @@ fn push_wanted<'a>(
 const FAILED: &str = "meson : it found no proof within its bounds; it unfolds no definitions";
 
 // Puts that the host's function behind a word fails at the end.
-fn push_failed<'a>(case: &Case<'a>, from: usize, lead: &'a str, message: &mut Message) {
+fn push_failed(case: &Case<'_>, from: usize, message: &mut Message) {
     let name = case.piece.text(from.saturating_add(1));
-    let behind = match line_of(FAILED, name) {
-        Some(behind) => behind,
-        None => "",
-    };
-    let parts = [
-        Text(lead),
-        Text("the host's "),
-        Quoted(name),
-        Text(" fails here"),
-        Text(behind),
-    ];
-    case.teller.push(message, &parts);
+    case.teller
+        .push(message, "the host's {} fails here", &[Quoted(name)]);
+    if let Some(behind) = line_of(FAILED, name) {
+        message.push_str(behind);
+    }
 }
 
 // Puts what the alternatives of a part want at the end, or that they fail, a part without alternatives being its only one.
@@ -133,16 +121,12 @@ fn push_alternatives(case: &Case<'_>, part: &Part, message: &mut Message) {
         let joint = next_outside(case.piece, Span { from, to }, ALTERNATIVES);
         let word = case.piece.text(from);
         if word == "HOST" {
-            push_failed(case, from, lead, message);
+            message.push_str(lead);
+            push_failed(case, from, message);
             lead = "; ";
         } else if let Some(wanted) = wanted(word) {
-            push_wanted(
-                case,
-                part,
-                Span { from, to: joint },
-                (lead, wanted),
-                message,
-            );
+            message.push_str(lead);
+            push_wanted(case, part, Span { from, to: joint }, wanted, message);
             lead = "; ";
         }
         if joint >= to {
@@ -155,38 +139,43 @@ fn push_alternatives(case: &Case<'_>, part: &Part, message: &mut Message) {
 // Puts a row of values at the end, each with its atom.
 fn push_values(case: &Case<'_>, atoms: &[Term], row: &[bool], message: &mut Message) {
     for at in 0..atoms.len().min(row.len()) {
-        let lead = if at == 0 { ": " } else { ", " };
-        let value = if row[at] { "=T" } else { "=F" };
-        case.teller
-            .push(message, &[Text(lead), Bare(&atoms[at]), Text(value)]);
+        message.push_str(if at == 0 { ": " } else { ", " });
+        let text = if row[at] { "{}=T" } else { "{}=F" };
+        case.teller.push(message, text, &[Bare(&atoms[at])]);
     }
 }
 
-// Puts the row of values at the end that makes a formula false.
-fn push_row(case: &Case<'_>, formula: &Term, row: &[bool], message: &mut Message) {
+// Puts the row of values at the end that makes a formula false, where there is one, and whether there is.
+fn push_row(case: &Case<'_>, formula: &Term, message: &mut Message) -> bool {
+    let Fault::NotTautology { row, .. } = case.fault else {
+        return false;
+    };
     if let Some(atoms) = message.given(atoms(case.teller.alloc, formula)) {
         push_values(case, &atoms, row, message);
     }
+    true
 }
 
 // Puts what a refiner without parts wants at the end, and what stands there. The message is on the word in question then.
 fn push_reason(case: &Case<'_>, from: usize, goal: (&[Term], &Term), message: &mut Message) {
     let (assumptions, conclusion) = goal;
-    let word = case.piece.text(from);
     let inside = from.saturating_add(1);
-    match (word, case.fault, case.arguments.term_at(inside)) {
-        ("CONV_TAC", _, _) => push_conversion(case, inside, conclusion, message),
-        ("REWRITE_TAC", _, _) => push_endless(case, message),
-        (_, Fault::NotTautology { row, .. }, _) => {
-            push_row(case, conclusion, row, message);
-            if !assumptions.is_empty() && word == "TAUT_TAC" {
+    match case.piece.text(from) {
+        "CONV_TAC" => push_conversion(case, inside, conclusion, message),
+        "REWRITE_TAC" => push_endless(case, message),
+        "EXISTS_TAC" => {
+            if let Some(witness) = case.arguments.term_at(inside) {
+                case.teller.push_misfit(message, conclusion, &witness.term);
+            }
+        }
+        word => {
+            if push_row(case, conclusion, message)
+                && !assumptions.is_empty()
+                && word == "TAUT_TAC"
+            {
                 message.push_str(UNSEEN);
             }
         }
-        ("EXISTS_TAC", _, Some(witness)) => {
-            case.teller.push_misfit(message, conclusion, &witness.term);
-        }
-        _ => {}
     }
 }
 
@@ -198,7 +187,7 @@ pub(crate) fn has_alternatives(piece: &Piece<'_>, span: Span) -> bool {
 /// Says what is known of a part of a refiner expression that is refused: what is wanted there, and its first goal.
 pub fn of_part(case: &Case<'_>, part: &Part, message: &mut Message) {
     let from = part.span.from;
-    case.say(message, from, &[Text(sentence(case.fault))]);
+    case.say(message, from, sentence(case.fault), &[]);
     let is_leaf = !has_alternatives(case.piece, part.span) && is_refiner(case.piece.text(from));
     match (case.fault, &part.goal) {
         (Fault::LengthMismatch, _) => {
@@ -215,6 +204,7 @@ pub fn of_part(case: &Case<'_>, part: &Part, message: &mut Message) {
     }
     let goal = first_goal(part.goals.as_str());
     if !goal.is_empty() {
-        case.teller.push(message, &[Text("; the first goal there is "), Quoted(goal)]);
+        case.teller
+            .push(message, "; the first goal there is {}", &[Quoted(goal)]);
     }
 }

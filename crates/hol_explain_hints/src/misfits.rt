@@ -2,11 +2,11 @@
 use crate::arguments::Quotation;
 use crate::case::Case;
 use crate::parts::sides;
-use crate::said::Said::{Quoted, Text, Typed};
+use crate::said::Said::{Quoted, Typed};
 use hol_explain_words::Message;
 use hol_terms::Term;
 
-const UNFIT: &str = " finds types that do not fit";
+const UNFIT: &str = "{} finds types that do not fit";
 
 // Puts the left sides of the equations at the end that `MK_COMB` applies to one another.
 fn push_left_sides(case: &Case<'_>, message: &mut Message) {
@@ -17,13 +17,9 @@ fn push_left_sides(case: &Case<'_>, message: &mut Message) {
         sides(&first.conclusion),
         sides(&second.conclusion),
     ) {
-        let parts = [
-            Text(": the function "),
-            Typed(function),
-            Text(", and its argument "),
-            Typed(argument),
-        ];
-        case.teller.push(message, &parts);
+        let parts = [Typed(function), Typed(argument)];
+        case.teller
+            .push(message, ": the function {}, and its argument {}", &parts);
     }
 }
 
@@ -36,13 +32,8 @@ fn push_unequal(case: &Case<'_>, message: &mut Message) {
             case.arguments.term(at.saturating_add(1)),
         ) {
             if !new.term.ty().eq(old.term.ty()) {
-                let parts = [
-                    Text(": "),
-                    Typed(&new.term),
-                    Text(", and "),
-                    Typed(&old.term),
-                ];
-                case.teller.push(message, &parts);
+                let parts = [Typed(&new.term), Typed(&old.term)];
+                case.teller.push(message, ": {}, and {}", &parts);
                 return;
             }
         }
@@ -52,28 +43,29 @@ fn push_unequal(case: &Case<'_>, message: &mut Message) {
 // The term of `EXISTS`, or of another rule, that is to stand for the variable of a formula, and that formula.
 fn stand_in<'a>(case: &Case<'a>) -> Option<(&'a Quotation, &'a Term)> {
     let arguments = case.arguments;
+    let first = arguments.term(0)?;
     if case.rule() == "EXISTS" {
-        Some((arguments.term(1)?, &arguments.term(0)?.term))
+        Some((arguments.term(1)?, &first.term))
     } else {
-        Some((arguments.term(0)?, &arguments.theorem(0)?.conclusion))
+        Some((first, &arguments.theorem(0)?.conclusion))
     }
 }
 
 /// Says the two types that do not fit, of the terms and the theorems of a rule.
 pub(crate) fn mistyped(case: &Case<'_>, message: &mut Message) {
-    let unfit = [Quoted(case.rule()), Text(UNFIT)];
+    let rule = [Quoted(case.rule())];
     match case.rule() {
         "MK_COMB" => {
-            case.say(message, 4, &unfit);
+            case.say(message, 4, UNFIT, &rule);
             push_left_sides(case, message);
         }
         "INST" => {
-            case.say(message, 4, &unfit);
+            case.say(message, 4, UNFIT, &rule);
             push_unequal(case, message);
         }
         _ => {
             if let Some((quotation, formula)) = stand_in(case) {
-                case.say(message, quotation.at, &unfit);
+                case.say(message, quotation.at, UNFIT, &rule);
                 case.teller.push_misfit(message, formula, &quotation.term);
             }
         }

@@ -6,30 +6,28 @@ use hol_explain_words::{
     Kind, Known, Message, Piece, Unknown, is_among, is_before_theorem, line_of_pair, type_depth,
 };
 
-// The last word before a place in the list that is no part of a list of names.
-fn word_before_list(piece: &Piece<'_>, at: usize) -> usize {
-    let mut before = at;
-    for _ in 0..at {
-        before = before.saturating_sub(1);
-        if piece.text(before) == "[" {
-            return before.saturating_sub(1);
-        }
-        if piece.kind(before) != Kind::Name && piece.text(before) != ";" {
-            return before;
+// Whether a place in the list stands between the brackets of a `REWRITE_TAC`.
+fn is_in_rewriting(piece: &Piece<'_>, at: usize) -> bool {
+    let mut is_inside = false;
+    for before in 0..at {
+        match piece.text(before) {
+            "REWRITE_TAC" => is_inside = true,
+            "]" => is_inside = false,
+            _ => {}
         }
     }
-    before
+    is_inside
 }
 
 /// Whether the name at a place in the list is that of a theorem.
 pub(crate) fn is_theorem_place(piece: &Piece<'_>, at: usize) -> bool {
-    if at > 0 && is_before_theorem(piece.text(at.saturating_sub(1))) {
+    if is_before_theorem(piece.text(at.saturating_sub(1))) {
         return true;
     }
     match piece.text(0) {
         "show" => at == 1,
         "thm" => at > 3 && piece.text(3) != "CONV",
-        "e" => piece.text(word_before_list(piece, at)) == "REWRITE_TAC",
+        "e" => is_in_rewriting(piece, at),
         _ => false,
     }
 }
@@ -37,7 +35,7 @@ pub(crate) fn is_theorem_place(piece: &Piece<'_>, at: usize) -> bool {
 // The name at a place in the list, where it is that of a theorem or of a host's function and is unknown.
 fn unknown_at<'a>(case: &Case<'a>, at: usize) -> Option<Unknown<'a>> {
     let known = case.teller.known;
-    let (said, names, lost) = if at > 0 && case.piece.text(at.saturating_sub(1)) == "HOST" {
+    let (said, names, lost) = if case.piece.text(at.saturating_sub(1)) == "HOST" {
         (
             "the host has no function of this kind under",
             case.host_names,
@@ -127,6 +125,7 @@ pub(crate) fn at_new_name(case: &Case<'_>, message: &mut Message) {
         None => line_of_pair(NEW_NAMES, fault, "#any"),
     };
     if let Some(said) = said {
-        case.say(message, 1, &[Quoted(case.piece.text(1)), Text(said)]);
+        let parts = [Quoted(case.piece.text(1)), Text(said)];
+        case.say(message, 1, "{}{}", &parts);
     }
 }

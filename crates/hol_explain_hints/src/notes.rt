@@ -20,8 +20,8 @@ pub struct Accepted<'a> {
 }
 
 impl Accepted<'_> {
-    /// Puts the line of a note on what stands at an offset at the end.
-    pub(crate) fn push(&self, notes: &mut Message, at: usize, parts: &[Said<'_>]) {
+    /// Puts the line of a note on what stands at an offset at the end: a text with parts in its holes.
+    pub(crate) fn push(&self, notes: &mut Message, at: usize, text: &str, parts: &[Said<'_>]) {
         let (file, here) = self.told.located(at);
         let line = here.line;
         let column = here.column;
@@ -32,22 +32,21 @@ impl Accepted<'_> {
             known: self.known,
             goal: self.told.piece,
         };
-        teller.push(notes, parts);
+        teller.push(notes, text, parts);
         notes.push_str("\n");
     }
 }
+
+// What is said of a proved goal whose theorem is not stored.
+const UNSAVED: &str =
+    "the goal that was proved in {} is given up here, and its theorem is not stored: `save` stores it";
 
 // Says that a new goal takes the place of a proved one, or of one whose proof was begun.
 fn push_replaced(of: &Accepted<'_>, notes: &mut Message) {
     let proof = &of.known.proof;
     let at = of.told.piece.start(0);
     if let Some(place) = &proof.unsaved {
-        let parts = [
-            Text("the goal that was proved in "),
-            Text(place.as_str()),
-            Text(" is given up here, and its theorem is not stored: `save` stores it"),
-        ];
-        of.push(notes, at, &parts);
+        of.push(notes, at, UNSAVED, &[Text(place.as_str())]);
     } else if proof.open > 0 && proof.steps > 0 {
         let open = proof.open;
         let end = if open == 1 { "" } else { "s" };
@@ -55,7 +54,7 @@ fn push_replaced(of: &Accepted<'_>, notes: &mut Message) {
             "the proof of the goal before is given up, with {open} open goal{end}"
         );
         if let Some(said) = notes.made(said) {
-            of.push(notes, at, &[Text(said.as_str())]);
+            of.push(notes, at, said.as_str(), &[]);
         }
     }
 }
@@ -68,14 +67,9 @@ fn push_goal(of: &Accepted<'_>, notes: &mut Message) {
         push_replaced(of, notes);
     } else if goes_on(word) {
         if let (Some(begun), Some(refused)) = (&proof.begun, &proof.refused) {
-            let parts = [
-                Text("this goes on with the goal of "),
-                Text(begun.as_str()),
-                Text(": the `goal` of "),
-                Text(refused.as_str()),
-                Text(" was refused"),
-            ];
-            of.push(notes, of.told.piece.start(0), &parts);
+            let text = "this goes on with the goal of {}: the `goal` of {} was refused";
+            let parts = [Text(begun.as_str()), Text(refused.as_str())];
+            of.push(notes, of.told.piece.start(0), text, &parts);
         }
     }
 }
@@ -91,6 +85,10 @@ fn first_kept(known: &Known, piece: &Piece<'_>) -> Option<usize> {
     None
 }
 
+// What is said of a theorem that the last command would have replaced.
+const KEPT: &str =
+    "{} is an older theorem here: {}, which would have stored another one under the name, was refused";
+
 // Says that a name stands for another theorem than the last command would have stored under it.
 fn push_kept(of: &Accepted<'_>, notes: &mut Message) {
     let Some(at) = first_kept(of.known, of.told.piece) else {
@@ -98,13 +96,12 @@ fn push_kept(of: &Accepted<'_>, notes: &mut Message) {
     };
     let name = of.told.piece.text(at);
     if let Some(place) = of.known.place_kept(name) {
-        let parts = [
-            Quoted(name),
-            Text(" is an older theorem here: "),
-            Text(place),
-            Text(", which would have stored another one under the name, was refused"),
-        ];
-        of.push(notes, of.told.piece.start(at), &parts);
+        of.push(
+            notes,
+            of.told.piece.start(at),
+            KEPT,
+            &[Quoted(name), Text(place)],
+        );
     }
 }
 
@@ -175,6 +172,10 @@ fn free_from(known: &Known, inside: &Piece<'_>, variables: &[Term], from: usize)
     None
 }
 
+// What is said of a free variable that has the name of a constant.
+const NAMED: &str =
+    "this is a free variable, and not the constant {}, which is written `[{}:type]`";
+
 // Says of a quoted text, which begins at an offset, which free variable is the first that has the name of a constant.
 fn push_in_quote(of: &Accepted<'_>, notes: &mut Message, inside: &Piece<'_>, start: usize) {
     let first = next_named_as_constant(of.known, inside, 0);
@@ -189,14 +190,8 @@ fn push_in_quote(of: &Accepted<'_>, notes: &mut Message, inside: &Piece<'_>, sta
     };
     if let Some(at) = free_from(of.known, inside, &variables, first) {
         let name = inside.text(at.saturating_add(1));
-        let parts = [
-            Text("this is a free variable, and not the constant "),
-            Quoted(name),
-            Text(", which is written `["),
-            Text(name),
-            Text(":type]`"),
-        ];
-        of.push(notes, start.saturating_add(inside.start(at)), &parts);
+        let parts = [Quoted(name), Text(name)];
+        of.push(notes, start.saturating_add(inside.start(at)), NAMED, &parts);
     }
 }
 
@@ -229,6 +224,12 @@ fn namesake<'a>(variables: &'a [Term], variable: &Term) -> Option<&'a Term> {
     variables.iter().find(|other| is_named(other, name))
 }
 
+// What is said of a variable that is not free in a theorem.
+const IDLE: &str = "nothing is put for {}, which is not free in {}";
+
+// The same where another variable of its name is free there.
+const IDLE_BESIDE: &str = "nothing is put for {}, which is not free in {}; {} is";
+
 // Says that nothing is put for a variable in a theorem, whose conclusion has these free variables.
 fn push_idle<'b>(
     of: &Accepted<'_>,
@@ -238,24 +239,10 @@ fn push_idle<'b>(
     variables: &'b [Term],
 ) {
     let at = of.told.piece.start(old.at);
-    let lead = Text("nothing is put for ");
-    let joint = Text(", which is not free in ");
-    let (old, name) = (&old.term, Quoted(premise.name()));
-    match namesake(variables, old) {
-        Some(other) => of.push(
-            notes,
-            at,
-            &[
-                lead,
-                Shown(old),
-                joint,
-                name,
-                Text("; "),
-                Shown(other),
-                Text(" is"),
-            ],
-        ),
-        None => of.push(notes, at, &[lead, Shown(old), joint, name]),
+    let (shown, name) = (Shown(&old.term), Quoted(premise.name()));
+    match namesake(variables, &old.term) {
+        Some(other) => of.push(notes, at, IDLE_BESIDE, &[shown, name, Shown(other)]),
+        None => of.push(notes, at, IDLE, &[shown, name]),
     }
 }
 
@@ -327,5 +314,5 @@ pub fn push_unchanged(of: &Accepted<'_>, notes: &mut Message, at: usize) {
     } else {
         "`REWRITE_TAC` changes no goal here: none of its equations matches a part (compare names and types)"
     };
-    of.push(notes, of.told.piece.start(at), &[Text(said)]);
+    of.push(notes, of.told.piece.start(at), said, &[]);
 }

@@ -18,11 +18,17 @@ const NO_NAME: &str = "no binder, constant or declared variable is named";
 const UNDECLARED: &str =
     "; a free variable is written `(name:type)` at each place, or declared by `var`";
 
+const OF_GOAL: &str =
+    "{} `{}`; the goal has `({}:{})`: write it with its type, or declare `var {} : {}`";
+
+const GENERIC: &str =
+    "{} is a constant with type variables in its type {}, so that it is written `[{}:type]`";
+
 // Where the name at a place in the list begins, with the bracket before it.
 fn begin_of_name(piece: &Piece<'_>, at: usize) -> usize {
     let before = at.saturating_sub(1);
     let is_typed = piece.text(at.saturating_add(1)) == ":";
-    let is_bracketed = piece.text(before) == "(" || piece.text(before) == "[";
+    let is_bracketed = matches!(piece.text(before), "(" | "[");
     piece.start(if is_typed && is_bracketed { before } else { at })
 }
 
@@ -99,22 +105,20 @@ impl<'a> Quote<'a> {
     // Says why a bare name does not stand for a term: its constant has type variables, a variable of the goal wants its type, or it
     // stands for nothing.
     fn at_bare(&self, message: &mut Message, at: usize, name: &'a str) {
-        let Teller { alloc, known, goal } = self.teller;
+        let Teller { known, goal, .. } = self.teller;
         if let Some(ty) = known.scope.const_type(name) {
-            let parts = [
-                Quoted(name),
-                Text(" is a constant with type variables in its type "),
-                Type(ty),
-                Text(", so that it is written `["),
-                Text(name),
-                Text(":type]`"),
-            ];
-            self.teller.say(message, at, &parts);
+            let parts = [Quoted(name), Type(ty), Text(name)];
+            self.teller.say(message, at, GENERIC, &parts);
         } else if let Some(ty) = type_in(goal, name) {
-            message.at = at;
-            message.push_made(format!(in alloc;
-                "{NO_NAME} `{name}`; the goal has `({name}:{ty})`: write it with its type, or declare `var {name} : {ty}`"
-            ));
+            let parts = [
+                Text(NO_NAME),
+                Text(name),
+                Text(name),
+                Text(ty),
+                Text(name),
+                Text(ty),
+            ];
+            self.teller.say(message, at, OF_GOAL, &parts);
         } else {
             self.undeclared(message, at, name);
         }
@@ -135,16 +139,16 @@ impl<'a> Quote<'a> {
             message.say_unknown(alloc, at, &unknown);
             return;
         };
-        let parts = [
-            Text("the constant "),
-            Quoted(name),
-            Text(" has the generic type "),
-            Type(generic),
-        ];
-        self.teller.say(message, at, &parts);
+        let parts = [Quoted(name), Type(generic)];
+        self.teller.say(
+            message,
+            at,
+            "the constant {} has the generic type {}",
+            &parts,
+        );
         if let Some(ty) = message.given(build_type(alloc, &known.scope, types)) {
-            let parts = [Text(", and "), Type(&ty), Text(" is no instance of it")];
-            self.teller.push(message, &parts);
+            self.teller
+                .push(message, ", and {} is no instance of it", &[Type(&ty)]);
         }
     }
 
@@ -156,24 +160,24 @@ impl<'a> Quote<'a> {
         operator: &'b str,
         operand: &'b Term,
     ) {
-        let parts = [
-            Quoted(operator),
-            Text(" wants formulas, of type `bool`, and "),
-            Typed(operand),
-        ];
-        self.teller.say(message, at, &parts);
+        let parts = [Quoted(operator), Typed(operand)];
+        self.teller.say(
+            message,
+            at,
+            "{} wants formulas, of type `bool`, and {}",
+            &parts,
+        );
     }
 
     // Says that an infix, or application where there is none, does not fit its operands.
     fn misjoined(&self, message: &mut Message, operation: Option<Infix>, operands: Operands<'_>) {
         let Operands { first, second, .. } = operands;
-        let (lead, joint) = match operation {
-            None if first.ty().dest_fun().is_some() => ("the function ", ", and its argument "),
-            None => ("what is applied is no function: ", ", and its argument "),
-            Some(Infix::Equal) => (
-                "the sides of `=` have one type, but the left side ",
-                ", and the right side ",
-            ),
+        let text = match operation {
+            None if first.ty().dest_fun().is_some() => "the function {}, and its argument {}",
+            None => "what is applied is no function: {}, and its argument {}",
+            Some(Infix::Equal) => {
+                "the sides of `=` have one type, but the left side {}, and the right side {}"
+            }
             Some(operation) => {
                 let (at, operand) = if first.ty().is_bool() {
                     (operands.right, second)
@@ -184,8 +188,12 @@ impl<'a> Quote<'a> {
                 return;
             }
         };
-        let parts = [Text(lead), Typed(first), Text(joint), Typed(second)];
-        self.teller.say(message, operands.right, &parts);
+        self.teller.say(
+            message,
+            operands.right,
+            text,
+            &[Typed(first), Typed(second)],
+        );
     }
 
     // Says what is wrong with an infix, or an application where there is none, that is refused behind so many other steps.
@@ -261,13 +269,13 @@ pub(crate) fn in_quote<'a>(
     }
     if *fault == Fault::UnknownType {
         unknown_type(teller, message, piece, 0, false);
-        return;
+    } else {
+        let quote = Quote {
+            teller,
+            piece,
+            steps: &steps,
+        };
+        let front = refused_front(alloc, scope, &steps, fault);
+        quote.at_step(message, front.saturating_sub(1));
     }
-    let quote = Quote {
-        teller,
-        piece,
-        steps: &steps,
-    };
-    let front = refused_front(alloc, scope, &steps, fault);
-    quote.at_step(message, front.saturating_sub(1));
 }

@@ -16,7 +16,7 @@ fn in_quotes(case: &Case<'_>, message: &mut Message) {
                 case.teller.alloc,
                 case.piece.quoted(at),
             )) {
-                if case.rule() == "INST_TYPE" {
+                if case.piece.text(3) == "INST_TYPE" {
                     unknown_type(case.teller, message, &inside, 0, true);
                 } else {
                     in_quote(case.teller, message, &inside, case.fault);
@@ -39,13 +39,10 @@ fn at_row(case: &Case<'_>, message: &mut Message) {
     let Some(row) = case.row else {
         return;
     };
-    let behind = if row.contains('!') || row.contains('?') {
-        QUANTIFIED
-    } else {
-        ""
-    };
-    let parts = [Text("the formula is false where"), Text(row), Text(behind)];
-    case.say(message, 4, &parts);
+    case.say(message, 4, "the formula is false where{}", &[Text(row)]);
+    if row.contains('!') || row.contains('?') {
+        message.push_str(QUANTIFIED);
+    }
 }
 
 // Says what the names of a command tell of its refusal.
@@ -85,5 +82,5 @@ pub fn plain(case: &Case<'_>, message: &mut Message) {
     } else {
         sentence(case.fault)
     };
-    case.say(message, at, &[Text(said)]);
+    case.say(message, at, said, &[]);
 }

@@ -1,7 +1,7 @@
 // Type variables for which a command puts a type, and which its theorem does not have.
 use crate::arguments::Premise;
 use crate::notes::Accepted;
-use crate::said::Said::{Quoted, Text, Type};
+use crate::said::Said::{Quoted, Type};
 use hol_explain_words::{Kind, Message};
 use hol_syntax::read_type;
 use hol_terms::{Term, type_vars};
@@ -37,13 +37,9 @@ fn push_absent<'b>(
     if occurs(of.alloc, premise, variable, notes) {
         return;
     }
-    let parts = [
-        Text("nothing is put for "),
-        Type(variable),
-        Text(", which is no type variable of "),
-        Quoted(premise.name()),
-    ];
-    of.push(notes, of.told.piece.start(at), &parts);
+    let parts = [Type(variable), Quoted(premise.name())];
+    let text = "nothing is put for {}, which is no type variable of {}";
+    of.push(notes, of.told.piece.start(at), text, &parts);
 }
 
 // The same of the type variable that the word at a place in the list quotes.

@@ -4,7 +4,6 @@ use crate::case::Case;
 use crate::conversions::push_conversion;
 use crate::misfits::mistyped;
 use crate::parts::{body_at, sides};
-use crate::said::Said;
 use crate::said::Said::{Quoted, Shown, Text, Theorem, Type, Typed};
 use crate::shapes::wanted;
 use crate::unlike::not_alpha;
@@ -13,32 +12,26 @@ use hol_explain_words::{Message, sentence};
 use hol_model::Fault;
 use hol_terms::{Parts, Term, free_in, frees, type_vars};
 
-// The first theorem or the first term that a rule was given, its place in the list, and what is said behind it.
-fn first_given<'a>(case: &Case<'a>) -> Option<(usize, Said<'a>, &'static str)> {
-    let rule = case.rule();
-    if rule == "BETA_CONV" || rule == "EXISTS" {
-        let found = case.arguments.term(0)?;
-        return Some((found.at, Shown(&found.term), " stands there"));
-    }
-    let found = case.arguments.theorem(0)?;
-    Some((found.at, Theorem(found), ""))
-}
-
-// Says what the rule wants, and what it was given.
+// Says what the rule wants, and the first term or the first theorem that it was given.
 fn bad_shape(case: &Case<'_>, message: &mut Message) {
     let rule = case.rule();
-    let (Some(wanted), Some((at, found, end))) = (wanted(rule), first_given(case)) else {
+    let Some(wanted) = wanted(rule) else {
         return;
     };
-    let parts = [
-        Quoted(rule),
-        Text(" wants "),
-        Text(wanted),
-        Text(", and "),
-        found,
-        Text(end),
-    ];
-    case.say(message, at, &parts);
+    if matches!(rule, "BETA_CONV" | "EXISTS") {
+        if let Some(found) = case.arguments.term(0) {
+            let parts = [Quoted(rule), Text(wanted), Shown(&found.term)];
+            case.say(
+                message,
+                found.at,
+                "{} wants {}, and {} stands there",
+                &parts,
+            );
+        }
+    } else if let Some(found) = case.arguments.theorem(0) {
+        let parts = [Quoted(rule), Text(wanted), Theorem(found)];
+        case.say(message, found.at, "{} wants {}, and {}", &parts);
+    }
 }
 
 // Says which theorem is the first that is no equation.
@@ -46,12 +39,13 @@ fn no_equation(case: &Case<'_>, message: &mut Message) {
     for number in 0..case.arguments.theorems.len() {
         if let Some(found) = case.arguments.theorem(number) {
             if sides(&found.conclusion).is_none() {
-                let parts = [
-                    Quoted(case.rule()),
-                    Text(" wants an equation here, and "),
-                    Theorem(found),
-                ];
-                case.say(message, found.at, &parts);
+                let parts = [Quoted(case.rule()), Theorem(found)];
+                case.say(
+                    message,
+                    found.at,
+                    "{} wants an equation here, and {}",
+                    &parts,
+                );
                 return;
             }
         }
@@ -68,43 +62,59 @@ fn kind_of(term: &Term) -> &'static str {
     }
 }
 
-// Says which quoted term is the first that is no variable where one is wanted, or no formula.
-fn at_term(case: &Case<'_>, message: &mut Message) {
-    let wants_variable = *case.fault == Fault::NotVariable;
+// Says which quoted term is the first that is no variable where one is wanted: of a pair of `INST` the second.
+fn no_variable(case: &Case<'_>, message: &mut Message) {
+    let has_pairs = case.rule() == "INST";
     for number in 0..case.arguments.terms.len() {
         if let Some(found) = case.arguments.term(number) {
-            let term = &found.term;
-            let (is_right, shown, kind) = if wants_variable {
-                let is_new = case.rule() == "INST" && number % 2 == 0;
-                (is_new || term.is_var(), Shown(term), kind_of(term))
-            } else {
-                (term.ty().is_bool(), Typed(term), "")
-            };
-            if !is_right {
-                let lead = Text(sentence(case.fault));
-                case.say(
-                    message,
-                    found.at,
-                    &[lead, Text(", and "), shown, Text(kind)],
-                );
+            let is_new = has_pairs && number % 2 == 0;
+            if !is_new && !found.term.is_var() {
+                let kind = Text(kind_of(&found.term));
+                let parts = [Text(sentence(case.fault)), Shown(&found.term), kind];
+                case.say(message, found.at, "{}, and {}{}", &parts);
                 return;
             }
         }
     }
 }
 
-// The first hypothesis in which a variable is free, but for one.
+// Says which quoted term is the first that is no formula.
+fn no_formula(case: &Case<'_>, message: &mut Message) {
+    for number in 0..case.arguments.terms.len() {
+        if let Some(found) = case.arguments.term(number) {
+            if !found.term.ty().is_bool() {
+                let parts = [Text(sentence(case.fault)), Typed(&found.term)];
+                case.say(message, found.at, "{}, and {}", &parts);
+                return;
+            }
+        }
+    }
+}
+
+// Whether a hypothesis is the one that a rule takes out, where it takes one out.
+fn is_spared(hypothesis: &Term, spared: &Option<Term>) -> bool {
+    match spared {
+        Some(spared) => aconv(hypothesis, spared),
+        None => false,
+    }
+}
+
+// The first hypothesis of the last theorem in which the variable is free. `CHOOSE` takes out of these the body of the first theorem's
+// conclusion at the variable.
 fn hypothesis_with<'a>(
-    premise: &'a Premise,
+    case: &Case<'_>,
     variable: &Term,
-    but: &Option<Term>,
+    first: &Premise,
+    last: &'a Premise,
+    message: &mut Message,
 ) -> Option<&'a Term> {
-    for hypothesis in &premise.hypotheses {
-        let is_spared = match but {
-            Some(but) => aconv(hypothesis, but),
-            None => false,
-        };
-        if free_in(variable, hypothesis) && !is_spared {
+    let chosen = if case.rule() == "CHOOSE" {
+        body_at(case.teller.alloc, &first.conclusion, variable, message)
+    } else {
+        None
+    };
+    for hypothesis in &last.hypotheses {
+        if free_in(variable, hypothesis) && !is_spared(hypothesis, &chosen) {
             return Some(hypothesis);
         }
     }
@@ -118,17 +128,12 @@ fn free_in_conclusion<'a>(
     variable: &'a Quotation,
     premise: &'a Premise,
 ) {
-    let parts = [
-        Text("the variable "),
-        Shown(&variable.term),
-        Text(" is free in the conclusion of "),
-        Quoted(premise.name()),
-    ];
-    case.say(message, variable.at, &parts);
+    let parts = [Shown(&variable.term), Quoted(premise.name())];
+    let text = "the variable {} is free in the conclusion of {}";
+    case.say(message, variable.at, text, &parts);
 }
 
-// Says where the variable is free: in the conclusion, or in a hypothesis of the last theorem. `CHOOSE` takes out of these the body of
-// the first theorem's conclusion at the variable.
+// Says where the variable is free: in the conclusion, or in a hypothesis of the last theorem.
 fn free_in_hypothesis(case: &Case<'_>, message: &mut Message) {
     let last = case.arguments.theorems.len().saturating_sub(1);
     let (Some(variable), Some(first), Some(premise)) = (
@@ -139,29 +144,17 @@ fn free_in_hypothesis(case: &Case<'_>, message: &mut Message) {
         return;
     };
     let term = &variable.term;
-    let is_choice = case.rule() == "CHOOSE";
-    if is_choice && free_in(term, &premise.conclusion) {
+    if case.rule() == "CHOOSE" && free_in(term, &premise.conclusion) {
         free_in_conclusion(case, message, variable, premise);
         return;
     }
-    let chosen = if is_choice {
-        body_at(case.teller.alloc, &first.conclusion, term, message)
-    } else {
-        None
-    };
-    let Some(hypothesis) = hypothesis_with(premise, term, &chosen) else {
+    let Some(hypothesis) = hypothesis_with(case, term, first, premise, message) else {
         free_in_conclusion(case, message, variable, first);
         return;
     };
-    let parts = [
-        Text("the variable "),
-        Shown(term),
-        Text(" is free in the hypothesis "),
-        Shown(hypothesis),
-        Text(" of "),
-        Quoted(premise.name()),
-    ];
-    case.say(message, variable.at, &parts);
+    let parts = [Shown(term), Shown(hypothesis), Quoted(premise.name())];
+    let text = "the variable {} is free in the hypothesis {} of {}";
+    case.say(message, variable.at, text, &parts);
 }
 
 // Says the first of the variables that are free in the term of a definition.
@@ -169,13 +162,8 @@ fn not_closed_by(case: &Case<'_>, message: &mut Message, at: usize, variables: &
     let Some(variable) = variables.first() else {
         return;
     };
-    let parts = [
-        Text(sentence(case.fault)),
-        Text(", and "),
-        Shown(variable),
-        Text(" is free in it"),
-    ];
-    case.say(message, at, &parts);
+    let parts = [Text(sentence(case.fault)), Shown(variable)];
+    case.say(message, at, "{}, and {} is free in it", &parts);
 }
 
 // Says the first variable that is free in the term of a definition.
@@ -190,15 +178,11 @@ fn not_reflected(case: &Case<'_>, message: &mut Message, found: &Quotation) {
     let Some(variables) = message.given(type_vars(case.teller.alloc, &found.term)) else {
         return;
     };
-    let lead = [
-        Text(sentence(case.fault)),
-        Text(": the type is "),
-        Type(found.term.ty()),
-        Text(", and in the body stand"),
-    ];
-    case.say(message, found.at, &lead);
+    let parts = [Text(sentence(case.fault)), Type(found.term.ty())];
+    let text = "{}: the type is {}, and in the body stand";
+    case.say(message, found.at, text, &parts);
     for variable in &variables {
-        case.teller.push(message, &[Text(" "), Type(variable)]);
+        case.teller.push(message, " {}", &[Type(variable)]);
     }
 }
 
@@ -214,7 +198,7 @@ pub(crate) fn at_definition(case: &Case<'_>, message: &mut Message) {
 // Says the conversion that does not apply, and the term that it is applied to.
 fn at_conversion(case: &Case<'_>, message: &mut Message) {
     if let Some(found) = case.arguments.term(0) {
-        case.say(message, 4, &[Text(sentence(case.fault))]);
+        case.say(message, 4, sentence(case.fault), &[]);
         push_conversion(case, 4, &found.term, message);
     }
 }
@@ -224,12 +208,8 @@ fn at_quoted_term(case: &Case<'_>, message: &mut Message) {
     let Some(found) = case.arguments.term(0) else {
         return;
     };
-    let parts = [
-        Text(sentence(case.fault)),
-        Text(", and the term is "),
-        Shown(&found.term),
-    ];
-    case.say(message, found.at, &parts);
+    let parts = [Text(sentence(case.fault)), Shown(&found.term)];
+    case.say(message, found.at, "{}, and the term is {}", &parts);
 }
 
 /// Says what is wrong with a refused rule, where something is known.
@@ -241,7 +221,8 @@ pub(crate) fn at_rule(case: &Case<'_>, message: &mut Message) {
         (_, Fault::NotAlpha) => not_alpha(case, message),
         (_, Fault::FreeInHypothesis) => free_in_hypothesis(case, message),
         (_, Fault::TypeMismatch) => mistyped(case, message),
-        (_, Fault::NotVariable | Fault::NotBool) => at_term(case, message),
+        (_, Fault::NotVariable) => no_variable(case, message),
+        (_, Fault::NotBool) => no_formula(case, message),
         (_, Fault::NotTrivialBeta | Fault::TooManyAtoms) => at_quoted_term(case, message),
         _ => {}
     }

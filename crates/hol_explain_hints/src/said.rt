@@ -1,4 +1,4 @@
-// Messages in parts.
+// Messages with parts in the holes of a text.
 use crate::arguments::Premise;
 use crate::parts::dest_quantified;
 use hol_explain_words::{Known, Message, Piece, between, text_of, type_in};
@@ -26,6 +26,14 @@ pub(crate) enum Said<'a> {
     Typed(&'a Term),
     /// The name of a theorem, and its text.
     Theorem(&'a Premise),
+}
+
+// What stands before the first hole of a text, which is `{}`, and what stands behind it.
+fn around_hole(text: &str) -> (&str, &str) {
+    match text.split_once("{}") {
+        Some(parts) => parts,
+        None => (text, ""),
+    }
 }
 
 // The longest text that is shown of a term or a type.
@@ -101,17 +109,22 @@ impl Teller<'_> {
         }
     }
 
-    /// Puts parts at the end.
-    pub(crate) fn push(&self, message: &mut Message, parts: &[Said<'_>]) {
+    /// Puts a text at the end, with parts in its holes.
+    pub(crate) fn push(&self, message: &mut Message, text: &str, parts: &[Said<'_>]) {
+        let mut rest = text;
         for at in 0..parts.len() {
+            let (before, behind) = around_hole(rest);
+            message.push_str(before);
             self.push_part(message, parts[at]);
+            rest = behind;
         }
+        message.push_str(rest);
     }
 
-    /// Says parts on what stands at an offset.
-    pub(crate) fn say(&self, message: &mut Message, at: usize, parts: &[Said<'_>]) {
+    /// Says a text on what stands at an offset, with parts in its holes.
+    pub(crate) fn say(&self, message: &mut Message, at: usize, text: &str, parts: &[Said<'_>]) {
         message.at = at;
-        self.push(message, parts);
+        self.push(message, text, parts);
     }
 
     /// Puts the types at the end of the variable that a formula binds, and of a term that is to stand for it.
@@ -123,15 +136,15 @@ impl Teller<'_> {
             return;
         };
         let parts = [
-            Said::Text(": the bound variable "),
             Said::Quoted(name),
-            Said::Text(" of "),
             Said::Shown(formula),
-            Said::Text(" has the type "),
             Said::Type(ty),
-            Said::Text(", and "),
             Said::Typed(term),
         ];
-        self.push(message, &parts);
+        self.push(
+            message,
+            ": the bound variable {} of {} has the type {}, and {}",
+            &parts,
+        );
     }
 }

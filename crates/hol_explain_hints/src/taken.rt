@@ -1,15 +1,15 @@
 // Theorems that refiners are given, and why they do not take them.
 use crate::case::Case;
-use crate::said::Said::{Quoted, Shown, Text, Theorem};
+use crate::said::Said::{Quoted, Shown, Theorem};
 use hol_alpha::aconv;
 use hol_explain_words::{Message, Span, is_before_theorem};
 use hol_terms::Term;
 
-/// Puts the theorem behind a refiner or a conversion at the end, where it is one of a theorem.
-pub(crate) fn push_given<'a>(case: &Case<'a>, from: usize, lead: &'a str, message: &mut Message) {
+/// Puts a text at the end with the theorem behind a refiner or a conversion in its hole, where it is one of a theorem.
+pub(crate) fn push_given(case: &Case<'_>, from: usize, text: &str, message: &mut Message) {
     match case.arguments.theorem_at(from.saturating_add(1)) {
         Some(premise) if is_before_theorem(case.piece.text(from)) => {
-            case.teller.push(message, &[Text(lead), Theorem(premise)]);
+            case.teller.push(message, text, &[Theorem(premise)]);
         }
         _ => {}
     }
@@ -30,14 +30,8 @@ fn push_unassumed(case: &Case<'_>, assumptions: &[Term], span: Span, message: &m
     for at in span.from..span.to {
         if let Some(premise) = case.arguments.theorem_at(at) {
             if let Some(hypothesis) = first_unassumed(assumptions, &premise.hypotheses) {
-                let parts = [
-                    Text("; the hypothesis "),
-                    Shown(hypothesis),
-                    Text(" of "),
-                    Quoted(premise.name()),
-                    Text(" is not assumed"),
-                ];
-                case.teller.push(message, &parts);
+                let parts = [Shown(hypothesis), Quoted(premise.name())];
+                case.teller.push(message, "; the hypothesis {} of {} is not assumed", &parts);
                 return;
             }
         }
@@ -55,12 +49,9 @@ pub(crate) fn push_untaken(
     let is_accept = case.piece.text(span.from) == "ACCEPT_TAC";
     match case.arguments.theorem_at(span.from.saturating_add(1)) {
         Some(premise) if is_accept && !aconv(&premise.conclusion, conclusion) => {
-            let parts = [
-                Text("; the conclusion of "),
-                Quoted(premise.name()),
-                Text(" is not the goal"),
-            ];
-            case.teller.push(message, &parts);
+            let parts = [Quoted(premise.name())];
+            case.teller
+                .push(message, "; the conclusion of {} is not the goal", &parts);
         }
         _ => push_unassumed(case, assumptions, span, message),
     }

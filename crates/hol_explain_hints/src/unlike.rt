@@ -1,41 +1,33 @@
 // What is said of rules whose terms are not alike.
 use crate::case::Case;
 use crate::parts::{body_at, differing, infix_parts, sides};
-use crate::said::Said::{Shown, Text};
-use hol_explain_words::Message;
+use crate::said::Said::Shown;
+use hol_explain_words::{Message, line_of};
 use hol_terms::Term;
 
-// A term that has to be like another, and what is said before it.
-#[derive(Clone, Copy)]
-struct Side<'a> {
-    said: &'static str,
-    term: &'a Term,
-}
+// What is said of the two terms of a rule that have to be alike.
+const UNLIKE: &str = "\
+EXISTS the body of the first term at the witness, {} and the conclusion of the theorem, {}
+DISJ_CASES the conclusion of the second theorem, {} and that of the third, {}
+TRANS the right side of the first theorem, {} and the left side of the second, {}
+MP the antecedent of the first theorem, {} and the conclusion of the second, {}";
 
-// Says that two terms have to be alike, and the first parts in which they differ.
-fn differ<'b>(
-    case: &Case<'_>,
-    message: &mut Message,
-    at: usize,
-    first: Side<'b>,
-    second: Side<'b>,
-) {
-    let alike = [
-        Text(first.said),
-        Shown(first.term),
-        Text(second.said),
-        Shown(second.term),
-        Text(" have to be alike"),
-    ];
-    case.say(message, at, &alike);
-    if let Some((part, other)) = differing(first.term, second.term) {
-        let parts = [
-            Text("; they differ first at "),
-            Shown(part),
-            Text(" and "),
-            Shown(other),
-        ];
-        case.teller.push(message, &parts);
+// The same of other rules.
+const UNLIKE_LEFT: &str =
+    "the left side of the first theorem, {} and the conclusion of the second, {}";
+
+// Says that two terms of a rule have to be alike, and the first parts in which they differ.
+fn differ(case: &Case<'_>, message: &mut Message, at: usize, first: &Term, second: &Term) {
+    let text = match line_of(UNLIKE, case.rule()) {
+        Some(text) => text,
+        None => UNLIKE_LEFT,
+    };
+    case.say(message, at, text, &[Shown(first), Shown(second)]);
+    message.push_str(" have to be alike");
+    if let Some((part, other)) = differing(first, second) {
+        let parts = [Shown(part), Shown(other)];
+        case.teller
+            .push(message, "; they differ first at {} and {}", &parts);
     }
 }
 
@@ -49,55 +41,18 @@ fn unlike_body(case: &Case<'_>, message: &mut Message) {
         return;
     };
     if let Some(wanted) = body_at(case.teller.alloc, &formula.term, &witness.term, message) {
-        let first = Side {
-            said: "the body of the first term at the witness, ",
-            term: &wanted,
-        };
-        let second = Side {
-            said: " and the conclusion of the theorem, ",
-            term: &premise.conclusion,
-        };
-        differ(case, message, premise.at, first, second);
+        differ(case, message, premise.at, &wanted, &premise.conclusion);
     }
 }
 
-// The parts of two conclusions that a rule wants to be alike, and what is said before each.
-fn compared<'a>(rule: &str, first: &'a Term, second: &'a Term) -> Option<(Side<'a>, Side<'a>)> {
-    let (lead, wanted, joint, found) = match rule {
-        "DISJ_CASES" => (
-            "the conclusion of the second theorem, ",
-            first,
-            " and that of the third, ",
-            second,
-        ),
-        "TRANS" => (
-            "the right side of the first theorem, ",
-            sides(first)?.1,
-            " and the left side of the second, ",
-            sides(second)?.0,
-        ),
-        "MP" => (
-            "the antecedent of the first theorem, ",
-            infix_parts(first, "==>")?.0,
-            " and the conclusion of the second, ",
-            second,
-        ),
-        _ => (
-            "the left side of the first theorem, ",
-            sides(first)?.0,
-            " and the conclusion of the second, ",
-            second,
-        ),
-    };
-    let wanted = Side {
-        said: lead,
-        term: wanted,
-    };
-    let found = Side {
-        said: joint,
-        term: found,
-    };
-    Some((wanted, found))
+// The parts of two conclusions that a rule wants to be alike.
+fn compared<'a>(rule: &str, first: &'a Term, second: &'a Term) -> Option<(&'a Term, &'a Term)> {
+    match rule {
+        "DISJ_CASES" => Some((first, second)),
+        "TRANS" => Some((sides(first)?.1, sides(second)?.0)),
+        "MP" => Some((infix_parts(first, "==>")?.0, second)),
+        _ => Some((sides(first)?.0, second)),
+    }
 }
 
 /// Says which terms of a rule have to be alike.

@@ -265,7 +265,10 @@ pub(crate) fn read(
 ) -> Result<Reading, NoMemory> {
     let mut open = Vec::new(alloc);
     open.push(first)?;
-    let mut at = from;
+    let mut reading = Reading {
+        at: from,
+        missing: None,
+    };
     for _ in 0..u64::MAX {
         let Some(wanted) = open.pop() else {
             break;
@@ -274,17 +277,14 @@ pub(crate) fn read(
         if symbol.is_empty() {
             continue;
         }
-        let Some((further, inner)) = step(piece, at, symbol) else {
-            return Ok(Reading {
-                at,
-                missing: Some(symbol),
-            });
+        let Some((further, inner)) = step(piece, reading.at, symbol) else {
+            reading.missing = Some(symbol);
+            break;
         };
-        open.push(later)?;
-        open.push(inner)?;
-        at = further;
+        open.extend_from_slice(&[later, inner])?;
+        reading.at = further;
     }
-    Ok(Reading { at, missing: None })
+    Ok(reading)
 }
 
 /// What is expected at a symbol.

@@ -103,8 +103,13 @@ impl Known {
             kept_theorems: Vec::new(alloc),
             proof: Proof::none(),
         };
-        known.learn_first(alloc)?;
-        Ok(known)
+        match known.learn_first(alloc) {
+            Ok(()) => Ok(known),
+            Err(error) => {
+                drop(known);
+                Err(error)
+            }
+        }
     }
 
     // What is known when a script begins.

@@ -1,10 +1,12 @@
 // Places in a script, the files that a script was put together from, and where its commands stand.
+use crate::messages::Message;
 use crate::no_memory::NoMemory;
 use crate::piece::{Piece, between};
+use serde::Serialize;
 use std::alloc::Global;
 
 /// A line and a column, each counted from 1; a column counts bytes.
-#[derive(Clone, Copy, Drop)]
+#[derive(Clone, Copy, Drop, Serialize)]
 pub struct Place {
     pub line: usize,
     pub column: usize,
@@ -91,11 +93,11 @@ impl<'a> Told<'a> {
     pub fn line(&self, alloc: Global) -> Result<String, NoMemory> {
         let (file, here) = self.located(self.piece.start(0));
         let line = here.line;
-        let (lead, file, end) = if self.origins.len() > 1 {
-            (" of `", file, "`")
-        } else {
-            ("", "", "")
-        };
-        Ok(format!(in alloc; "line {line}{lead}{file}{end}")?)
+        let mut text = Message::new(alloc);
+        text.push_made(format!(in alloc; "line {line}"));
+        if self.origins.len() > 1 {
+            text.push_texts(&[" of `", file, "`"]);
+        }
+        text.finish()
     }
 }

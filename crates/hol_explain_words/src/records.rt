@@ -1,16 +1,10 @@
 // A command of a script, and what it came to, as a line of JSON.
 use crate::messages::Message;
-use crate::place::Told;
+use crate::place::{Place, Told};
 use hol_model::Fault;
 use serde::Serialize;
 use serde_json::to_string;
 use std::alloc::{AllocError, Global};
-
-#[derive(Clone, Copy, Serialize)]
-struct Point {
-    line: usize,
-    column: usize,
-}
 
 #[derive(Drop, Serialize)]
 struct Goal<'a> {
@@ -30,8 +24,8 @@ struct Refusal<'a> {
 #[derive(Drop, Serialize)]
 struct Record<'a> {
     file: &'a str,
-    begin: Point,
-    end: Point,
+    begin: Place,
+    end: Place,
     command: &'a str,
     text: &'a str,
     goals: Option<Vec<Goal<'a>>>,
@@ -52,11 +46,8 @@ impl Told<'_> {
         let lines_before = self.place_at(start).line.saturating_sub(first.line);
         Record {
             file,
-            begin: Point {
-                line: first.line,
-                column: first.column,
-            },
-            end: Point {
+            begin: first,
+            end: Place {
                 line: end.line.saturating_sub(lines_before),
                 column: end.column,
             },
@@ -86,10 +77,28 @@ fn goal_of<'a>(alloc: Global, line: &'a str, lines: &mut Message) -> Goal<'a> {
     }
 }
 
-// Puts a record at the end, as a line.
-fn push_record(alloc: Global, record: &Record<'_>, lines: &mut Message) {
-    lines.push_made(to_string(alloc, record));
+// Puts what is told of a command at the end, as a line.
+fn push_record<'a>(
+    alloc: Global,
+    told: &'a Told<'a>,
+    text: &'a str,
+    goals: Option<Vec<Goal<'a>>>,
+    refusal: Option<Refusal<'a>>,
+    lines: &mut Message,
+) {
+    let record = told.record(text, goals, refusal);
+    lines.push_made(to_string(alloc, &record));
     lines.push_str("\n");
+}
+
+// The goals of an answer that shows them.
+fn goals_of<'a>(alloc: Global, text: &'a str, lines: &mut Message) -> Vec<Goal<'a>> {
+    let mut goals = Vec::new(alloc);
+    for line in text.lines().skip(1) {
+        let goal = goal_of(alloc, line, lines);
+        let _pushed = lines.made(goals.push(goal));
+    }
+    goals
 }
 
 /// What an accepted command printed: where that is the open goals, a line that counts them, and a line for each.
@@ -106,16 +115,12 @@ pub fn push_accepted<'a>(
     answer: Answer<'a>,
     lines: &mut Message,
 ) {
-    if !answer.shows_goals {
-        push_record(alloc, &told.record(answer.text, None, None), lines);
-        return;
-    }
-    let mut goals = Vec::new(alloc);
-    for line in answer.text.lines().skip(1) {
-        let goal = goal_of(alloc, line, lines);
-        let _pushed = lines.made(goals.push(goal));
-    }
-    push_record(alloc, &told.record(answer.text, Some(goals), None), lines);
+    let goals = if answer.shows_goals {
+        Some(goals_of(alloc, answer.text, lines))
+    } else {
+        None
+    };
+    push_record(alloc, told, answer.text, goals, None, lines);
 }
 
 // What a run prints for a refusal whose command begins on this line.
@@ -158,6 +163,6 @@ pub fn push_refused<'a>(
     let printed = printed_refusal(alloc, line, fault, row);
     if let Some(text) = lines.made(printed) {
         let refusal = refusal_of(told, fault, message.at, said);
-        push_record(alloc, &told.record(&text, None, Some(refusal)), lines);
+        push_record(alloc, told, &text, None, Some(refusal), lines);
     }
 }

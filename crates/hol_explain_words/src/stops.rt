@@ -6,6 +6,7 @@ use crate::messages::Message;
 use crate::no_memory::NoMemory;
 use crate::piece::{Piece, between};
 use crate::scanner::Kind;
+use crate::tables::line_of;
 use std::alloc::Global;
 
 // What is said of a text that keeps to the grammar and is no command.
@@ -15,15 +16,22 @@ const OTHERWISE: &str =
 // What is said of a word for the end of a session.
 const ENDING: &str = "; the end of the input ends the session (Ctrl-D at a terminal)";
 
-// What stands at a place in the list, in three parts.
-fn found<'a>(piece: &'a Piece<'_>, at: usize) -> (&'a str, &'a str, &'a str) {
+// What is said of parentheses behind the word of a command.
+const CALLS: &str = "\
+b ; `b` is written without `()`
+p ; `p` is written without `()`";
+
+// Puts what stands at a place in the list at the end.
+fn push_found(piece: &Piece<'_>, at: usize, message: &mut Message) {
     match piece.kind(at) {
-        Kind::End => ("the end of the ", piece.called, ""),
-        Kind::Quote => ("a quoted text", "", ""),
-        Kind::Unclosed => ("a backquote without another behind it", "", ""),
-        Kind::Odd if piece.text(at).len() == 1 => ("`", piece.text(at), "`, which begins no word"),
-        Kind::Odd => ("a byte that is not ASCII", "", ""),
-        _ => ("`", piece.text(at), "`"),
+        Kind::End => message.push_texts(&["the end of the ", piece.called]),
+        Kind::Quote => message.push_str("a quoted text"),
+        Kind::Unclosed => message.push_str("a backquote without another behind it"),
+        Kind::Odd if piece.text(at).len() == 1 => {
+            message.push_texts(&["`", piece.text(at), "`, which begins no word"]);
+        }
+        Kind::Odd => message.push_str("a byte that is not ASCII"),
+        _ => message.push_texts(&["`", piece.text(at), "`"]),
     }
 }
 
@@ -62,19 +70,19 @@ fn begins_another(piece: &Piece<'_>, at: usize) -> bool {
     blanks.any(|byte| *byte == b'\n') && is_command(piece.text(at))
 }
 
-// What is said of a word of a command that stands there for a mistake about commands, in three parts.
-fn slip<'a>(piece: &'a Piece<'_>, at: usize, symbol: &str) -> Option<(&'a str, &'a str, &'a str)> {
+// What is said of a word of a command that stands there for a mistake about commands.
+fn slip(piece: &Piece<'_>, at: usize, symbol: &str) -> Option<&'static str> {
     if piece.is_quote {
         return None;
     }
     if symbol == "command" && is_ending(piece.text(at)) {
-        return Some((ENDING, "", ""));
+        return Some(ENDING);
     }
-    if at == 1 && piece.text(1) == "(" && matches!(piece.text(0), "b" | "p") {
-        return Some(("; `", piece.text(0), "` is written without `()`"));
+    if at == 1 && piece.text(1) == "(" {
+        return line_of(CALLS, piece.text(0));
     }
     if begins_another(piece, at) {
-        return Some(("; a `;;` may be missing before it", "", ""));
+        return Some("; a `;;` may be missing before it");
     }
     None
 }
@@ -110,8 +118,8 @@ fn push_better(
 ) {
     if let Some(said) = remark(piece, at, symbol) {
         message.push_str(said);
-    } else if let Some((lead, word, end)) = slip(piece, at, symbol) {
-        message.push_texts(&[lead, word, end]);
+    } else if let Some(said) = slip(piece, at, symbol) {
+        message.push_str(said);
     } else {
         push_other_word(alloc, words, symbol, piece.text(at), message);
     }
@@ -126,10 +134,9 @@ fn missing(
     symbol: &str,
     message: &mut Message,
 ) {
-    let (lead, found, end) = found(piece, at);
     message.at = piece.start(at);
     message.push_texts(&["expected ", expected(symbol), ", found "]);
-    message.push_texts(&[lead, found, end]);
+    push_found(piece, at, message);
     let mut words = Vec::new(alloc);
     let _pushed = message.made(push_words_at(alloc, known, symbol, &mut words));
     push_better(alloc, &words, piece, at, symbol, message);
