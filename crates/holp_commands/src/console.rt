@@ -97,10 +97,11 @@ impl<'a, 'b, 'c, H: Refiners> Console<'a, 'b, 'c, H> {
         let Ok(writes) = Box::new(alloc, move |piece: &[u8]| output.write(piece)) else {
             return;
         };
-        if let Some(follower) = self.follower.take() {
-            self.follower = follower
-                .follow(alloc, &script, self.host, &mut IntoCall::new(writes))
-                .ok();
+        if let Some(follower) = &mut self.follower {
+            let followed = follower.follow(alloc, &script, self.host, &mut IntoCall::new(writes));
+            if followed.is_err() {
+                drop(self.follower.take());
+            }
         }
         self.command.clear();
     }

@@ -46,17 +46,13 @@ fn converse_with<'a, 'b, L: Sink>(
     let mut reader = Console::new(rt, &host, host_names, view, feed, prompts);
     let mut writer = Output::new(rt, &[], Some(view));
     let ended = converse(rt.alloc(), &mut reader, &mut writer, log, wants_log, &host);
-    let refused = match ended {
-        Ok(ended) => {
-            // What stands behind the last `;;` is explained.
-            reader.end();
-            refused_in(ended)
-        }
-        Err(fault) => Err(fault),
-    };
+    if ended.is_ok() {
+        // What stands behind the last `;;` is explained.
+        reader.end();
+    }
     // The program ends, and the session goes with its memory, as one.
     forget(reader);
-    refused
+    refused_in(ended?)
 }
 
 // The same, with the names of the host's functions, and a view that knows no declarations yet.

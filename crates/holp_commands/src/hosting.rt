@@ -1,11 +1,10 @@
 // The host of the program: the sample refiners and conversions, and those of `hol_tactics`.
-ghost use Rattle.std.specs.Prelude.{map};
 
-use hol_host::{Beside, Converters, HostFail, Refiners};
+use hol_host::{Beside, Converts, Equated, HostFail, Refines, Table};
 use hol_host_samples::{liar, liar2, peel, swap};
-use hol_just::{Goal, Just, Step};
+use hol_just::{Goal, Step};
 use hol_model::Fault;
-use hol_tactics::{Tactics, named};
+use hol_tactics::{TACTICS, Tactics};
 use hol_terms::Term;
 use std::alloc::Global;
 
@@ -33,52 +32,38 @@ pub const REFINERS: [(&str, Refiner); 3] = [
 /// The sample conversions, each under its name.
 pub const CONVERSIONS: [(&str, Conversion); 1] = [("swap", Conversion::Swap)];
 
+impl Refines for Refiner {
+    fn refine(self, alloc: Global, goal: &Goal) -> Result<Step, HostFail> {
+        match self {
+            Refiner::Peel => peel(alloc, goal),
+            Refiner::Liar => liar(alloc, goal),
+            Refiner::Liar2 => liar2(alloc, goal),
+        }
+    }
+}
+
+impl Converts for Conversion {
+    fn convert(self, alloc: Global, term: &Term) -> Equated {
+        match self {
+            Conversion::Swap => swap(alloc, term),
+        }
+    }
+}
+
+/// The host of the sample refiners and conversions.
+pub type Samples = Table<'static, Refiner, Conversion>;
+
 /// The sample refiners and conversions, under the names of `REFINERS` and `CONVERSIONS`.
-#[derive(Clone, Copy)]
-pub struct Samples;
-
-impl Converters for Samples {
-    ghost use Rattle.holp_commands.specs.declared.hosting.TheConstants.{CONVERSIONS};
-
-    ghost conversions = { λ host. record {
-      names = map (λ entry. entry.0.now) CONVERSIONS;
-      converts = λ name term answer. Unit {0};
-    } };
-
-    fn convert(
-        &self,
-        alloc: Global,
-        name: &str,
-        term: &Term,
-    ) -> Option<Result<(Term, Just), HostFail>> {
-        match named(&CONVERSIONS, name)? {
-            Conversion::Swap => Some(swap(alloc, term)),
-        }
-    }
-}
-
-impl Refiners for Samples {
-    ghost use Rattle.holp_commands.specs.declared.hosting.TheConstants.{REFINERS};
-
-    ghost refiners = { λ host. record {
-      names = map (λ entry. entry.0.now) REFINERS;
-      refines = λ name goal answer. Unit {0};
-    } };
-
-    fn refine(&self, alloc: Global, name: &str, goal: &Goal) -> Option<Result<Step, HostFail>> {
-        match named(&REFINERS, name)? {
-            Refiner::Peel => Some(peel(alloc, goal)),
-            Refiner::Liar => Some(liar(alloc, goal)),
-            Refiner::Liar2 => Some(liar2(alloc, goal)),
-        }
-    }
-}
+pub const SAMPLES: Samples = Table {
+    refiners: &REFINERS,
+    conversions: &CONVERSIONS,
+};
 
 /// The host of the program.
 pub(crate) fn host() -> Beside<Samples, Tactics> {
     Beside {
-        first: Samples,
-        second: Tactics,
+        first: SAMPLES,
+        second: TACTICS,
     }
 }
 

@@ -44,14 +44,10 @@ fn explain_run(rt: &HostRuntime, script: &Script<'_>, refused: u64) {
 
 /// How many commands were refused in a session that has ended. The program ends, and the session goes with its memory, as one.
 pub(crate) fn refused_in(ended: Ended) -> Result<u64, Fault> {
-    match ended.whole() {
-        Ok(progress) => {
-            let refused = progress.summary.refused;
-            forget(progress);
-            Ok(refused)
-        }
-        Err(fault) => Err(fault),
-    }
+    let progress = ended.whole()?;
+    let refused = progress.summary.refused;
+    forget(progress);
+    Ok(refused)
 }
 
 // Runs a script over the host of the program, and answers how many of its commands were refused. Where these are to be explained,
@@ -72,14 +68,14 @@ fn run_with<W: Sink, L: Sink>(
         return write_records(alloc, script, &host(), writer);
     }
     let mut reader = FromRead::new(script.text);
-    let ended = match run(alloc, &mut reader, writer, log, wants_log, &host()) {
-        Ok(ended) => ended,
-        Err(fault) => return Err(fault),
-    };
+    let ended = run(alloc, &mut reader, writer, log, wants_log, &host())?;
     if !options.explains {
         return refused_in(ended);
     }
-    let refused = ended.whole()?.summary.refused;
+    let progress = ended.whole()?;
+    let refused = progress.summary.refused;
+    // The session is let go before its script is run once more.
+    drop(progress);
     explain_run(rt, script, refused);
     Ok(refused)
 }

@@ -2,7 +2,7 @@
 
 use clap::{Arg, ArgAction, ArgMatches, Command};
 use hol_model::Fault;
-use std::alloc::Global;
+use std::alloc::{AllocError, Global};
 
 /// The version of the program.
 pub(crate) const VERSION: &str = "0.1.0";
@@ -32,26 +32,27 @@ fn flag<'a>(alloc: Global, name: &'a str, help: &'a str) -> Arg<'a> {
         .action(ArgAction::SetTrue)
 }
 
-fn run_words<'a>(alloc: Global) -> Result<Command<'a>, Fault> {
-    let scripts = file_argument(
-        alloc,
-        "SCRIPT",
-        "The files of the proof scripts; - is standard input",
-    );
+// The option that asks for lines of JSON.
+fn json_option<'a>(alloc: Global) -> Result<Arg<'a>, AllocError> {
     let help = "Tells each command by a line of JSON, with its message";
-    let json = flag(alloc, "json", help)
+    flag(alloc, "json", help)
         .conflicts_with("log")?
         .conflicts_with("explain")?
-        .conflicts_with("goals")?;
-    Ok(
-        Command::new(alloc, "run")
-            .about("Runs proof scripts, one after another as one")
-            .arg(scripts.num_args(1..).action(ArgAction::Append))?
-            .arg(log_option(alloc))?
-            .arg(flag(alloc, "explain", "Explains each refusal on standard error"))?
-            .arg(flag(alloc, "goals", "Lays open goals out in lines"))?
-            .arg(json)?,
-    )
+        .conflicts_with("goals")
+}
+
+fn run_words<'a>(alloc: Global) -> Result<Command<'a>, Fault> {
+    let help = "The files of the proof scripts; - is standard input";
+    let scripts = file_argument(alloc, "SCRIPT", help)
+        .num_args(1..)
+        .action(ArgAction::Append);
+    let words = Command::new(alloc, "run")
+        .about("Runs proof scripts, one after another as one")
+        .arg(scripts)?
+        .arg(log_option(alloc))?
+        .arg(flag(alloc, "explain", "Explains each refusal on standard error"))?
+        .arg(flag(alloc, "goals", "Lays open goals out in lines"))?;
+    Ok(words.arg(json_option(alloc)?)?)
 }
 
 fn repl_words<'a>(alloc: Global) -> Result<Command<'a>, Fault> {
@@ -93,15 +94,17 @@ fn migrate_words<'a>(alloc: Global) -> Result<Command<'a>, Fault> {
 
 /// The commands with their arguments.
 pub(crate) fn command_line<'a>(alloc: Global) -> Result<Command<'a>, Fault> {
+    let mut commands = Vec::new(alloc);
+    commands.push(run_words(alloc)?)?;
+    commands.push(repl_words(alloc)?)?;
+    commands.push(check_words(alloc)?)?;
+    commands.push(migrate_words(alloc)?)?;
     Ok(
         Command::new(alloc, "holp")
             .version(VERSION)
             .about("A theorem prover for higher-order logic")
             .subcommand_required(true)
-            .subcommand(run_words(alloc)?)?
-            .subcommand(repl_words(alloc)?)?
-            .subcommand(check_words(alloc)?)?
-            .subcommand(migrate_words(alloc)?)?,
+            .subcommands(commands)?,
     )
 }
 
