@@ -16,7 +16,7 @@ NAMES = re.compile(r"(note: )?(\./)?proofs/.*(has no field|is not in scope|has n
 
 
 def function_at(crate, file, line):
-    """Returns the path of the function in which the line stands, or its end."""
+    """Returns the path of the function in which the line stands, or its end; None where it stands in none."""
     module = file.removeprefix("src/").removesuffix(".rt").removesuffix("/mod").split("/")
     owner = function = None
     with open(f"{crate.folder}/{file}", encoding="utf-8") as text:
@@ -28,9 +28,11 @@ def function_at(crate, file, line):
                 owner, function = owner + (f"+{given}" if given and not generics else "") + re.sub(r"\W", "", trait or ""), None
             elif found := FUNCTION.match(it):
                 function = found.group(1)
+    if not function:
+        return None
     if owner:
         return f"{owner}::{function}"
-    return "::".join([crate.name, *(module if module != ["lib"] else []), *filter(None, (function,))])
+    return "::".join([crate.name, *(module if module != ["lib"] else []), function])
 
 
 def judge(crate, edit):
@@ -39,13 +41,15 @@ def judge(crate, edit):
     texts, why = rt.read_edit(edit, crate.folder)
     if why:
         return False, f"{label}: BAD EDIT: {why}"
-    if len(texts) != 1 or not list(texts)[0].startswith("src/"):
+    path = None
+    if len(texts) == 1 and list(texts)[0].startswith("src/"):
+        ((file, text),) = texts.items()
+        with open(f"{crate.folder}/{file}", encoding="utf-8") as old:
+            lines = zip(old.read().split("\n"), text.split("\n"))
+        path = function_at(crate, file, next(at for at, (one, other) in enumerate(lines) if one != other))
+    if not path:
         came_to, said = rt.must_fail(crate, edit, ["--jobs", "1"], f"{crate.folder}/out/incremental")
         return came_to in (rt.REFUSED, rt.AT_LIMIT), said
-    ((file, text),) = texts.items()
-    with open(f"{crate.folder}/{file}", encoding="utf-8") as old:
-        lines = zip(old.read().split("\n"), text.split("\n"))
-    path = function_at(crate, file, next(at for at, (one, other) in enumerate(lines) if one != other))
     ran = rt.checked(crate, texts, ["--jobs", "1", "--only", path], None)
     told = [it for it in ran.stdout.split("\n") if TOLD.match(it) and (": error" in it or it.startswith("note: "))]
     first = next((it for it in told if not NAMES.match(it)), "")
