@@ -16,7 +16,7 @@ use std::alloc::Global;
 
 /// A formula by the places of the atoms and of the parts that it is made of.
 #[derive(Clone, Copy, PartialEq, Eq, Hash)]
-pub(crate) enum Part {
+pub enum Part {
     Atom(usize),
     Constantly(bool),
     Negated(usize),
@@ -83,8 +83,8 @@ fn part_of_atom(term: &Term, atoms: &[Term]) -> Part
     }
 }
 
-// The place of the first of the atoms that a term is.
-fn place_of(term: &Term, atoms: &[Term]) -> Option<usize>
+/// The place of the first of the atoms that a term is.
+pub(crate) fn place_of(term: &Term, atoms: &[Term]) -> Option<usize>
     ensures { result ≡ position (λ atom. are_alpha_equivalent atom term.now) atoms.now }
 {
     atoms.iter().position(|atom| aconv(atom, term))
