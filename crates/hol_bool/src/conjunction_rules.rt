@@ -14,7 +14,7 @@ ghost use Rattle.hol_equal.specs.Sequents.{Shows, DerivesIf, Continues};
 ghost use Rattle.hol_equal.specs.Inferred.{Infers};
 
 use crate::formula_terms::{connect, equivalence, for_p_q};
-use crate::prelude_rules::{by_leading_theorem, by_theorem, sides_of};
+use crate::prelude_rules::{by_leading_theorem, by_theorem_at_p_q, sides_of};
 use hol_equal::steps::{self, conclusion_of};
 use hol_journal::{Rec, Recorder};
 use hol_model::Fault;
@@ -39,9 +39,15 @@ pub fn conjunct1(
     let Some(sides) = sides_of(recorder, logic, premise, "/\\") else {
         return Err(Fault::BadShape);
     };
-    let terms = for_p_q(alloc, sides.left, sides.right)?;
-    by_theorem(
-        recorder, alloc, logic, CONJUNCT1, &terms, sides.left, premise,
+    by_theorem_at_p_q(
+        recorder,
+        alloc,
+        logic,
+        CONJUNCT1,
+        sides.left,
+        sides.right,
+        sides.left,
+        premise,
     )
 }
 
@@ -62,13 +68,13 @@ pub fn conjunct2(
     let Some(sides) = sides_of(recorder, logic, premise, "/\\") else {
         return Err(Fault::BadShape);
     };
-    let terms = for_p_q(alloc, sides.left, sides.right)?;
-    by_theorem(
+    by_theorem_at_p_q(
         recorder,
         alloc,
         logic,
         CONJUNCT2,
-        &terms,
+        sides.left,
+        sides.right,
         sides.right,
         premise,
     )

@@ -16,8 +16,8 @@ ghost use Rattle.hol_equal.specs.Sequents.{Shows, DerivesIf, Continues};
 ghost use Rattle.hol_equal.specs.Inferred.{Infers};
 
 use crate::conjunction_rules::conj_in_room;
-use crate::formula_terms::{connect, equivalence, for_p_q};
-use crate::prelude_rules::{by_theorem, pass_formula, sides_of};
+use crate::formula_terms::{connect, equivalence};
+use crate::prelude_rules::{by_theorem_at_p_q, pass_formula, sides_of};
 use hol_alpha::aconv;
 use hol_equal::steps::{self, conclusion_of};
 use hol_journal::{Rec, Recorder};
@@ -50,8 +50,9 @@ pub fn mp_in_room(
     let whole = conclusion_of(recorder, first);
     let antecedent = conclusion_of(recorder, second);
     let stated = equivalence(alloc, whole, consequent)?;
-    let terms = for_p_q(alloc, antecedent, consequent)?;
-    let equation = by_theorem(recorder, alloc, logic, MP, &terms, &stated, second)?;
+    let equation = by_theorem_at_p_q(
+        recorder, alloc, logic, MP, antecedent, consequent, &stated, second,
+    )?;
     steps::eq_mp_known(recorder, alloc, &equation, first)
 }
 
@@ -99,8 +100,7 @@ fn first_of_both(
     ensures derives { (room : Room) → FitsIf room (image both.now) → DerivesIf room result (image both.now ∷ []) (image p.now) }
 {
     let assumed = steps::assume_known(recorder, alloc, both)?;
-    let terms = for_p_q(alloc, p, q)?;
-    by_theorem(recorder, alloc, logic, CONJUNCT1, &terms, p, &assumed)
+    by_theorem_at_p_q(recorder, alloc, logic, CONJUNCT1, p, q, p, &assumed)
 }
 
 // From `q`, `p /\ q <=> p` without the hypothesis `p`.
@@ -149,9 +149,8 @@ pub fn disch_in_room(
 {
     let q = conclusion_of(recorder, premise);
     let stated = connect(alloc, "==>", p, q)?;
-    let terms = for_p_q(alloc, p, q)?;
     let equation = conj_absorption(recorder, alloc, logic, p, premise)?;
-    by_theorem(recorder, alloc, logic, DISCH, &terms, &stated, &equation)
+    by_theorem_at_p_q(recorder, alloc, logic, DISCH, p, q, &stated, &equation)
 }
 
 /// DISCH: from `q`, `p ==> q` without the hypothesis `p`, in 22 steps. Refused where `p` is not of type `bool`, and then

@@ -9,7 +9,9 @@ ghost use Rattle.hol_equal.specs.Sequents.{Continues};
 ghost use Rattle.hol_equal.specs.Inferred.{Infers};
 
 use crate::formula_terms::{connect, falsity, for_p, is_named, negate};
-use crate::prelude_rules::{by_leading_theorem, by_theorem, negated_of, pass_formula, sides_of};
+use crate::prelude_rules::{
+    by_leading_theorem, by_theorem_at_p, negated_of, pass_formula, sides_of,
+};
 use hol_equal::conclusion_of;
 use hol_journal::{Rec, Recorder};
 use hol_model::Fault;
@@ -40,8 +42,9 @@ pub fn not_intro(
     }
     recorder.theory_is_legal();
     let stated = negate(alloc, sides.left)?;
-    let terms = for_p(alloc, sides.left)?;
-    by_theorem(recorder, alloc, logic, NOT_INTRO, &terms, &stated, premise)
+    by_theorem_at_p(
+        recorder, alloc, logic, NOT_INTRO, sides.left, &stated, premise,
+    )
 }
 
 /// NOT_ELIM: from `~p`, `p ==> F`, in six steps. Refused where the conclusion is no negation.
@@ -63,8 +66,7 @@ pub fn not_elim(
     };
     let falsity = falsity(alloc)?;
     let stated = connect(alloc, "==>", part, &falsity)?;
-    let terms = for_p(alloc, part)?;
-    by_theorem(recorder, alloc, logic, NOT_ELIM, &terms, &stated, premise)
+    by_theorem_at_p(recorder, alloc, logic, NOT_ELIM, part, &stated, premise)
 }
 
 /// CONTR: from `F`, `p`, in six steps. Refused where the conclusion is not `F`, then where `p` is not of type `bool`, and

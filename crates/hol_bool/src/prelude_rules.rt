@@ -1,20 +1,22 @@
 // Steps by the theorems of the prelude.
-ghost use Rattle.std.specs.Prelude.{◌≡◌, ◌<◌, List, [], IfOk, IfErr, OnOk, IfSome, Some, None, false, length};
+ghost use Rattle.std.specs.Prelude.{◌≡◌, ◌<◌, ◌⊎◌, [], IfOk, IfErr, OnOk, IfSome, Some, None, false, length};
 ghost use Rattle.std.specs.Option.{option_map};
+ghost use Rattle.hol_model.specs.declared.fault.Fault.TheVariants.{Memory};
 ghost use Rattle.hol_model.specs.Logic.Theory.{IsLegal, generic_type};
 ghost use Rattle.hol_model.specs.Logic.Logic.{logical_definitions, binary};
 ghost use Rattle.hol_model.specs.Logic.NamedLogic.{dest_connected, dest_negation};
-ghost use Rattle.hol_model.specs.Terms.Nameless.{Nameless, image};
+ghost use Rattle.hol_model.specs.Terms.Nameless.{image};
 ghost use Rattle.hol_model.specs.Kernel.Instantiation.{replacements_refusal};
+ghost use Rattle.hol_model.specs.Kernel.Rules.{first_unknown};
 ghost use Rattle.hol_journal.specs.Journal.{IsMade};
 ghost use Rattle.hol_prelude.specs.Prelude.{prelude_theorems};
 ghost use Rattle.hol_prelude.specs.HasLogic.{HasLogic};
 ghost use Rattle.hol_equal.specs.Formulas.{IsFormula, AreSides, IsNegated, IsPassed, IsRefused};
 ghost use Rattle.hol_equal.specs.Room.{Room};
-ghost use Rattle.hol_equal.specs.Sequents.{Shows, DerivesIf, Continues};
-ghost use Rattle.hol_bool.specs.PreludeInstances.{LeadsTo, Says};
+ghost use Rattle.hol_equal.specs.Sequents.{DerivesIf, Continues};
+ghost use Rattle.hol_bool.specs.PreludeInstances.{LeadsTo, Says, TheoremDerives, at_p, at_p_q};
 
-use crate::formula_terms::{Sides, connected_sides, negated_part};
+use crate::formula_terms::{Sides, connected_sides, for_p, for_p_q, negated_part};
 use hol_equal::{by_lemma_known, conclusion_of, instance_known, named_known, named_same};
 use hol_journal::{Rec, Recorder};
 use hol_model::Fault;
@@ -40,15 +42,62 @@ pub(crate) fn by_theorem(
     requires stated { IsFormula recorder.old.theory stated.now }
     ensures continues { Continues recorder.old recorder.new result }
     ensures names { IfOk result (λ made. made.theorem.conclusion ≡ stated.now) }
-    ensures derives { (h : List Nameless) (p : Nameless) (room : Room) → LeadsTo recorder.old.theory number terms.now room p (image stated.now)
-        → Shows premise.now.theorem h p → DerivesIf room result h (image stated.now) }
+    ensures derives { TheoremDerives recorder.old.theory number terms.now stated.now premise.now.theorem result }
 {
     let lemma = theorem_of(recorder, logic, number);
     let answer = by_lemma_known(recorder, alloc, &[], terms, lemma, premise)?;
     named_known(recorder, alloc, stated, &answer)
 }
 
-/// The same, where a proof shows that the theorem of the prelude leads from the premise to what is stated: its conclusion at
+/// The same at a formula, for the variable `p`.
+pub(crate) fn by_theorem_at_p(
+    recorder: &mut Recorder,
+    alloc: Global,
+    logic: &Bool,
+    number: usize,
+    p: &Term,
+    stated: &Term,
+    premise: &Rec,
+) -> Result<Rec, Fault>
+    requires logic { HasLogic recorder.old logic.now }
+    requires number { number < length prelude_theorems }
+    requires formula { IsFormula recorder.old.theory p.now }
+    requires stated { IsFormula recorder.old.theory stated.now }
+    requires premise { IsMade recorder.old premise.now }
+    ensures continues { Continues recorder.old recorder.new result }
+    ensures names { IfOk result (λ made. made.theorem.conclusion ≡ stated.now) }
+    ensures derives { TheoremDerives recorder.old.theory number (at_p p.now) stated.now premise.now.theorem result }
+{
+    let terms = for_p(alloc, p)?;
+    by_theorem(recorder, alloc, logic, number, &terms, stated, premise)
+}
+
+/// The same at two formulas, for the variables `p` and `q`.
+pub(crate) fn by_theorem_at_p_q(
+    recorder: &mut Recorder,
+    alloc: Global,
+    logic: &Bool,
+    number: usize,
+    p: &Term,
+    q: &Term,
+    stated: &Term,
+    premise: &Rec,
+) -> Result<Rec, Fault>
+    requires logic { HasLogic recorder.old logic.now }
+    requires number { number < length prelude_theorems }
+    requires left { IsFormula recorder.old.theory p.now }
+    requires right { IsFormula recorder.old.theory q.now }
+    requires stated { IsFormula recorder.old.theory stated.now }
+    requires premise { IsMade recorder.old premise.now }
+    ensures continues { Continues recorder.old recorder.new result }
+    ensures names { IfOk result (λ made. made.theorem.conclusion ≡ stated.now) }
+    ensures derives { TheoremDerives recorder.old.theory number (at_p_q p.now q.now) stated.now premise.now.theorem result }
+{
+    let terms = for_p_q(alloc, p, q)?;
+    by_theorem(recorder, alloc, logic, number, &terms, stated, premise)
+}
+
+/// As `by_theorem`, where a proof shows that the theorem of the prelude leads from the premise to what is stated: its conclusion at
 /// the terms is not compared with it.
 pub(crate) fn by_leading_theorem(
     recorder: &mut Recorder,
@@ -66,8 +115,7 @@ pub(crate) fn by_leading_theorem(
     requires leads { LeadsTo recorder.old.theory number terms.now false (image premise.now.theorem.conclusion) (image stated.now) }
     ensures continues { Continues recorder.old recorder.new result }
     ensures names { IfOk result (λ made. made.theorem.conclusion ≡ stated.now) }
-    ensures derives { (h : List Nameless) (p : Nameless) (room : Room) → LeadsTo recorder.old.theory number terms.now room p (image stated.now)
-        → Shows premise.now.theorem h p → DerivesIf room result h (image stated.now) }
+    ensures derives { TheoremDerives recorder.old.theory number terms.now stated.now premise.now.theorem result }
 {
     let lemma = theorem_of(recorder, logic, number);
     let answer = by_lemma_known(recorder, alloc, &[], terms, lemma, premise)?;
@@ -132,16 +180,24 @@ pub(crate) fn negated_of<'a>(
     negated_part(conclusion_of(recorder, premise))
 }
 
+/// Walks a term that comes in: the theory is to know its types and constants.
+pub fn pass_known(recorder: &Recorder, term: &Term) -> Result<(), Fault>
+    ensures ok { OnOk result (first_unknown recorder.now.theory term.now ≡ None) }
+    ensures err { IfErr result (λ fault. (fault ≡ Memory) ⊎ (first_unknown recorder.now.theory term.now ≡ Some fault)) }
+{
+    match recorder.theory().first_unknown(term) {
+        Some(fault) => Err(fault),
+        None => Ok(()),
+    }
+}
+
 /// Walks a term that comes in: it is to be a formula that the theory knows.
-pub(crate) fn pass_formula(recorder: &Recorder, term: &Term) -> Result<(), Fault>
+pub fn pass_formula(recorder: &Recorder, term: &Term) -> Result<(), Fault>
     ensures ok { OnOk result (IsPassed recorder.now.theory term.now) }
     ensures err { IfErr result (IsRefused recorder.now.theory term.now) }
 {
     if !term.ty().is_bool() {
         return Err(Fault::NotBool);
     }
-    match recorder.theory().first_unknown(term) {
-        Some(fault) => Err(fault),
-        None => Ok(()),
-    }
+    pass_known(recorder, term)
 }

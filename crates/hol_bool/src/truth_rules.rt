@@ -7,8 +7,8 @@ ghost use Rattle.hol_prelude.specs.HasLogic.{HasLogic};
 ghost use Rattle.hol_equal.specs.Sequents.{Continues};
 ghost use Rattle.hol_equal.specs.Inferred.{Infers};
 
-use crate::formula_terms::{equivalence, for_p, is_named, truth};
-use crate::prelude_rules::by_theorem;
+use crate::formula_terms::{equivalence, is_named, truth};
+use crate::prelude_rules::by_theorem_at_p;
 use hol_equal::conclusion_of;
 use hol_equal::equality::equation_parts;
 use hol_journal::{Rec, Recorder};
@@ -34,8 +34,9 @@ pub fn eqt_intro(
     let conclusion = conclusion_of(recorder, premise);
     let truth = truth(alloc)?;
     let stated = equivalence(alloc, conclusion, &truth)?;
-    let terms = for_p(alloc, conclusion)?;
-    by_theorem(recorder, alloc, logic, EQT_INTRO, &terms, &stated, premise)
+    by_theorem_at_p(
+        recorder, alloc, logic, EQT_INTRO, conclusion, &stated, premise,
+    )
 }
 
 /// EQT_ELIM: from `p <=> T`, `p`, in six steps. Refused where the conclusion is no equation with `T` on its right.
@@ -59,8 +60,7 @@ pub fn eqt_elim(
     if !is_named(parts.right, "T") {
         return Err(Fault::BadShape);
     }
-    let terms = for_p(alloc, parts.left)?;
-    by_theorem(
-        recorder, alloc, logic, EQT_ELIM, &terms, parts.left, premise,
+    by_theorem_at_p(
+        recorder, alloc, logic, EQT_ELIM, parts.left, parts.left, premise,
     )
 }

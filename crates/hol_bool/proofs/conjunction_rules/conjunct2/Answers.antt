@@ -9,8 +9,7 @@ use Rattle.hol_prelude.specs.Prelude.{p, q}
 use Rattle.hol_equal.proofs.CutLemmas.{shows-itself}
 use Rattle.hol_bool.proofs.RuleAnswers.{answered-one, leads-p_q, roomy-fits}
 use Rattle.hol_bool.proofs.InferredRules.{infers_conjunct2}
-use Rattle.hol_bool.proofs.PreludeSteps.{p_q-known}
-use Rattle.hol_bool.proofs.Passing.{unchanged}
+use Rattle.hol_bool.specs.PreludeInstances.{at_p_q}
 use Rattle.hol_bool.proofs.conjunction_rules.conjunct2.Goals as goal
 
 pub returns-clause-outcome : goal.returns-clause-outcome
@@ -20,26 +19,24 @@ returns-clause-outcome c =
     let a = c.in-Some.sides.left.now in
     let b = c.in-Some.sides.right.now in
     let parts = c.in-Some.ensures.parts in
-    answered-one c.by_theorem.result premise c.in-Some.sides.right.now (conjunct2_outcome premise)
+    answered-one c.by_theorem_at_p_q.result premise c.in-Some.sides.right.now (conjunct2_outcome premise)
     (ap (λ (o : Option (NamedTerm × NamedTerm)). given o BadShape (λ sides. stated (images premise) sides.1)) (sym c.in-Some.ensures.sides))
-    (λ room whole part. c.by_theorem.ensures.derives (images premise) (image premise.conclusion) room
-    (leads-p_q theory 14 (conjunction p q) q a b c.deref.result.now refl refl parts.left_formula parts.right_formula
-    (c.deref.ensures.value ∙ c.in_ok-terms.ensures.ok) room (image premise.conclusion) (image c.in-Some.sides.right.now) (ap image parts.is) refl
+    (λ room whole part. c.by_theorem_at_p_q.ensures.derives (images premise) (image premise.conclusion) room
+    (leads-p_q theory 14 (conjunction p q) q a b (at_p_q a b) refl refl parts.left_formula parts.right_formula
+    refl room (image premise.conclusion) (image c.in-Some.sides.right.now) (ap image parts.is) refl
     (roomy-fits room (image premise.conclusion) whole) (roomy-fits room (image c.in-Some.sides.right.now) part))
     (shows-itself premise))
-    c.by_theorem.ensures.names
+    c.by_theorem_at_p_q.ensures.names
 
 pub returns-clause-inferred : goal.returns-clause-inferred
 returns-clause-inferred c = infers_conjunct2 c.requires.logic c.in-Some.ensures.legal c.in-Some.ensures.formula (returns-clause-outcome c)
 
-pub by_theorem-requires-clause-known : goal.by_theorem-requires-clause-known
-by_theorem-requires-clause-known c =
-    let parts = c.in-Some.ensures.parts in
-    p_q-known c.args.recorder.now.theory c.in-Some.sides.left.now c.in-Some.sides.right.now c.deref.result.now (c.deref.ensures.value ∙ c.in_ok-terms.ensures.ok) parts.left_formula parts.right_formula
-
-pub by_theorem-requires-clause-stated : goal.by_theorem-requires-clause-stated
-by_theorem-requires-clause-stated c =
+pub by_theorem_at_p_q-requires-clause-stated : goal.by_theorem_at_p_q-requires-clause-stated
+by_theorem_at_p_q-requires-clause-stated c =
     c.in-Some.ensures.parts.right_formula
 
-pub returns-in_err-terms-clause-continues : goal.returns-in_err-terms-clause-continues
-returns-in_err-terms-clause-continues c = unchanged c.args.recorder.now c.from_residual.result c.from_residual.ensures.0
+pub by_theorem_at_p_q-requires-clause-left : goal.by_theorem_at_p_q-requires-clause-left
+by_theorem_at_p_q-requires-clause-left c = c.in-Some.ensures.parts.left_formula
+
+pub by_theorem_at_p_q-requires-clause-right : goal.by_theorem_at_p_q-requires-clause-right
+by_theorem_at_p_q-requires-clause-right c = c.in-Some.ensures.parts.right_formula

@@ -12,7 +12,6 @@ use Rattle.hol_equal.specs.Sequents.{Shows, DerivesIf}
 use Rattle.hol_bool.specs.PreludeInstances.{LeadsTo, at_p_q}
 use Rattle.hol_bool.proofs.RoomLemmas.{connected-is, connected-past}
 use Rattle.hol_bool.proofs.ImplicationAnswers.{disch_equation, disch-implication-fits, disch-leads}
-use Rattle.hol_bool.proofs.PreludeSteps.{p_q-known, still_known}
 use Rattle.hol_bool.proofs.FormulaLemmas.{connects, made-formula, formula_in}
 use Rattle.hol_bool.proofs.Passing.{unchanged}
 use Rattle.hol_equal.proofs.StepLemmas.{passed_on}
@@ -33,17 +32,17 @@ returns-clause-names c =
     let b = c.args.premise.now.theorem.conclusion in
     let concluded = c.conclusion_of-q.ensures in
     let stated_is = connected-is c.in_ok-stated.stated implies_name a b a c.conclusion_of-q.result.now c.requires.formula.typed concluded.formula.typed refl concluded.value c.in_ok-stated.ensures in
-    subst (λ (t : NamedTerm). IfOk c.by_theorem.result (λ made. made.theorem.conclusion ≡ t)) stated_is c.by_theorem.ensures.names
+    subst (λ (t : NamedTerm). IfOk c.by_theorem_at_p_q.result (λ made. made.theorem.conclusion ≡ t)) stated_is c.by_theorem_at_p_q.ensures.names
 
 pub returns-clause-derives : goal.returns-clause-derives
 returns-clause-derives c h q room shown fits =
     let a = c.args.p.now in
     let b = c.args.premise.now.theorem.conclusion in
     let concluded = c.conclusion_of-q.ensures in
-    let terms = c.deref.result.now in
+    let terms = at_p_q a c.conclusion_of-q.result.now in
     let left = without (image a) h in
     let stated_is = connected-is c.in_ok-stated.stated implies_name a b a c.conclusion_of-q.result.now c.requires.formula.typed concluded.formula.typed refl concluded.value c.in_ok-stated.ensures in
-    let terms_are : terms ≡ at_p_q a b = c.deref.ensures.value ∙ c.in_ok-terms.ensures.ok ∙ ap (at_p_q a) concluded.value in
+    let terms_are : terms ≡ at_p_q a b = ap (at_p_q a) concluded.value in
     let fits_here = subst (λ (t : Nameless). FitsIf room (disch_equation (image a) t)) (sym shown.concludes) fits in
     let from = nameless_equation bool_type (nameless.conjunction (image a) (image b)) (image a) in
     let leads = subst (λ (t : Theory). LeadsTo t 16 terms room from (image (implication a b))) (sym c.in_ok-equation.ensures.continues.theory)
@@ -51,23 +50,13 @@ returns-clause-derives c h q room shown fits =
     let equation = subst (λ (t : Nameless).
     Shows c.in_ok-equation.equation.theorem left (nameless_equation bool_type (nameless.conjunction (image a) t) (image a)))
     (sym shown.concludes) (c.in_ok-equation.ensures.derives h q room shown fits) in
-    let answer : DerivesIf room c.by_theorem.result left (nameless.implication (image a) (image b)) =
-    subst (λ (t : NamedTerm). LeadsTo c.conj_absorption.new.recorder.theory 16 terms room from (image t) → DerivesIf room c.by_theorem.result left (image t)) stated_is
-    (λ l. c.by_theorem.ensures.derives left from room l equation) leads in
-    subst (λ (t : Nameless). DerivesIf room c.by_theorem.result left (nameless.implication (image a) t)) shown.concludes answer
+    let answer : DerivesIf room c.by_theorem_at_p_q.result left (nameless.implication (image a) (image b)) =
+    subst (λ (t : NamedTerm). LeadsTo c.conj_absorption.new.recorder.theory 16 terms room from (image t) → DerivesIf room c.by_theorem_at_p_q.result left (image t)) stated_is
+    (λ l. c.by_theorem_at_p_q.ensures.derives left from room l equation) leads in
+    subst (λ (t : Nameless). DerivesIf room c.by_theorem_at_p_q.result left (nameless.implication (image a) t)) shown.concludes answer
 
-pub by_theorem-requires-clause-known : goal.by_theorem-requires-clause-known
-by_theorem-requires-clause-known c =
-    let a = c.args.p.now in
-    let b = c.args.premise.now.theorem.conclusion in
-    let concluded = c.conclusion_of-q.ensures in
-    let theory = c.args.recorder.now.theory in
-    let terms_are : c.deref.result.now ≡ at_p_q a b = c.deref.ensures.value ∙ c.in_ok-terms.ensures.ok ∙ ap (at_p_q a) concluded.value in
-    still_known c.conj_absorption.new.recorder.theory theory c.deref.result.now c.in_ok-equation.ensures.continues.theory
-    (p_q-known theory a b c.deref.result.now terms_are c.requires.formula concluded.formula)
-
-pub by_theorem-requires-clause-stated : goal.by_theorem-requires-clause-stated
-by_theorem-requires-clause-stated c =
+pub by_theorem_at_p_q-requires-clause-stated : goal.by_theorem_at_p_q-requires-clause-stated
+by_theorem_at_p_q-requires-clause-stated c =
     let journal = c.args.recorder.now in
     let a = c.args.p.now in
     let b = c.args.premise.now.theorem.conclusion in
@@ -80,5 +69,13 @@ by_theorem-requires-clause-stated c =
 pub returns-in_err-stated-clause-continues : goal.returns-in_err-stated-clause-continues
 returns-in_err-stated-clause-continues c = unchanged c.args.recorder.now c.from_residual.result c.from_residual.ensures.0
 
-pub returns-in_err-terms-clause-continues : goal.returns-in_err-terms-clause-continues
-returns-in_err-terms-clause-continues c = unchanged c.args.recorder.now c.from_residual-in_err-terms.result c.from_residual-in_err-terms.ensures.0
+pub by_theorem_at_p_q-requires-clause-left : goal.by_theorem_at_p_q-requires-clause-left
+by_theorem_at_p_q-requires-clause-left c =
+    formula_in c.conj_absorption.new.recorder.theory c.args.recorder.now.theory c.args.p.now c.in_ok-equation.ensures.continues.theory c.requires.formula
+
+pub by_theorem_at_p_q-requires-clause-right : goal.by_theorem_at_p_q-requires-clause-right
+by_theorem_at_p_q-requires-clause-right c =
+    let concluded = c.conclusion_of-q.ensures in
+    let theory = c.args.recorder.now.theory in
+    formula_in c.conj_absorption.new.recorder.theory theory c.conclusion_of-q.result.now c.in_ok-equation.ensures.continues.theory
+    (made-formula theory c.conclusion_of-q.result.now c.args.premise.now.theorem.conclusion concluded.value concluded.formula)

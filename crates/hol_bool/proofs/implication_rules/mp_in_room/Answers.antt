@@ -12,7 +12,6 @@ use Rattle.hol_equal.proofs.StepLemmas.{equation-fits, passed_on}
 use Rattle.hol_equal.proofs.CutLemmas.{right-names, given-derives}
 use Rattle.hol_bool.proofs.RoomLemmas.{equation-is, equation-past}
 use Rattle.hol_bool.proofs.ConjunctionAnswers.{mp_equation, mp-leads}
-use Rattle.hol_bool.proofs.PreludeSteps.{p_q-known}
 use Rattle.hol_bool.proofs.FormulaLemmas.{equation-formula, made-formula}
 use Rattle.hol_bool.proofs.Passing.{unchanged}
 use Rattle.hol_bool.proofs.implication_rules.mp_in_room.Goals as goal
@@ -35,9 +34,9 @@ returns-in_err-equation-clause-derives c h k s room first second fits =
     let one = c.conclusion_of-antecedent.ensures in
     let two = c.requires.consequent in
     let theory = c.args.recorder.now.theory in
-    let terms = c.deref.result.now in
+    let terms = at_p_q c.conclusion_of-antecedent.result.now b in
     let stated_is = equation-is c.in_ok-stated.stated whole b c.conclusion_of-whole.result.now b zero.formula.typed two.typed zero.value refl c.in_ok-stated.ensures in
-    let terms_are : terms ≡ at_p_q a b = c.deref.ensures.value ∙ c.in_ok-terms.ensures.ok ∙ ap (λ (u : NamedTerm). at_p_q u b) one.value in
+    let terms_are : terms ≡ at_p_q a b = ap (λ (u : NamedTerm). at_p_q u b) one.value in
     let whole_is : image whole ≡ nameless.implication (image a) (image b) = first.concludes ∙ ap (λ (u : Nameless). nameless.implication u (image b)) (sym second.concludes) in
     let leads = mp-leads theory whole a b terms zero.formula one.formula two terms_are whole_is room (subst (λ (u : Nameless). FitsIf room (mp_equation u (image b))) (sym second.concludes) fits) in
     rw (passed_on c.from_residual-in_err-equation.result c.in_err-equation.field-0.0 c.from_residual-in_err-equation.ensures.1)
@@ -70,9 +69,9 @@ returns-clause-derives c h k s room first second fits =
     let one = c.conclusion_of-antecedent.ensures in
     let two = c.requires.consequent in
     let theory = c.args.recorder.now.theory in
-    let terms = c.deref.result.now in
+    let terms = at_p_q c.conclusion_of-antecedent.result.now b in
     let stated_is = equation-is c.in_ok-stated.stated whole b c.conclusion_of-whole.result.now b zero.formula.typed two.typed zero.value refl c.in_ok-stated.ensures in
-    let terms_are : terms ≡ at_p_q a b = c.deref.ensures.value ∙ c.in_ok-terms.ensures.ok ∙ ap (λ (u : NamedTerm). at_p_q u b) one.value in
+    let terms_are : terms ≡ at_p_q a b = ap (λ (u : NamedTerm). at_p_q u b) one.value in
     let whole_is : image whole ≡ nameless.implication (image a) (image b) = first.concludes ∙ ap (λ (u : Nameless). nameless.implication u (image b)) (sym second.concludes) in
     let leads = mp-leads theory whole a b terms zero.formula one.formula two terms_are whole_is room (subst (λ (u : Nameless). FitsIf room (mp_equation u (image b))) (sym second.concludes) fits) in
     let equation_shown : Shows c.in_ok-equation.equation.theorem k (image (equation whole b)) =
@@ -84,16 +83,8 @@ returns-clause-derives c h k s room first second fits =
     given-derives room c.eq_mp_known.result (k ++ h) (image b)
     (c.eq_mp_known.ensures.gives k h (nameless.implication s (image b)) (image b) at_images first)
 
-pub by_theorem-requires-clause-known : goal.by_theorem-requires-clause-known
-by_theorem-requires-clause-known c =
-    let a = c.args.second.now.theorem.conclusion in
-    let b = c.args.consequent.now in
-    let one = c.conclusion_of-antecedent.ensures in
-    let terms_are : c.deref.result.now ≡ at_p_q a b = c.deref.ensures.value ∙ c.in_ok-terms.ensures.ok ∙ ap (λ (u : NamedTerm). at_p_q u b) one.value in
-    p_q-known c.args.recorder.now.theory a b c.deref.result.now terms_are one.formula c.requires.consequent
-
-pub by_theorem-requires-clause-stated : goal.by_theorem-requires-clause-stated
-by_theorem-requires-clause-stated c =
+pub by_theorem_at_p_q-requires-clause-stated : goal.by_theorem_at_p_q-requires-clause-stated
+by_theorem_at_p_q-requires-clause-stated c =
     let theory = c.args.recorder.now.theory in
     let whole = c.args.first.now.theorem.conclusion in
     let b = c.args.consequent.now in
@@ -104,5 +95,7 @@ by_theorem-requires-clause-stated c =
 pub returns-in_err-stated-clause-continues : goal.returns-in_err-stated-clause-continues
 returns-in_err-stated-clause-continues c = unchanged c.args.recorder.now c.from_residual.result c.from_residual.ensures.0
 
-pub returns-in_err-terms-clause-continues : goal.returns-in_err-terms-clause-continues
-returns-in_err-terms-clause-continues c = unchanged c.args.recorder.now c.from_residual-in_err-terms.result c.from_residual-in_err-terms.ensures.0
+pub by_theorem_at_p_q-requires-clause-left : goal.by_theorem_at_p_q-requires-clause-left
+by_theorem_at_p_q-requires-clause-left c =
+    let one = c.conclusion_of-antecedent.ensures in
+    made-formula c.args.recorder.now.theory c.conclusion_of-antecedent.result.now c.args.second.now.theorem.conclusion one.value one.formula

@@ -11,8 +11,7 @@ use Rattle.hol_equal.proofs.CutLemmas.{shows-itself}
 use Rattle.hol_bool.proofs.FormulaLemmas.{sides_as, truth-equation}
 use Rattle.hol_bool.proofs.RuleAnswers.{answered-one, leads-p, roomy-fits}
 use Rattle.hol_bool.proofs.InferredRules.{infers_eqt_elim}
-use Rattle.hol_bool.proofs.PreludeSteps.{p-known}
-use Rattle.hol_bool.proofs.Passing.{unchanged}
+use Rattle.hol_bool.specs.PreludeInstances.{at_p}
 use Rattle.hol_bool.proofs.truth_rules.eqt_elim.Goals as goal
 
 pub returns-clause-outcome : goal.returns-clause-outcome
@@ -25,33 +24,21 @@ returns-clause-outcome c =
     let dest : sides_as a b ≡ dest_equation premise.conclusion = c.in-Some.ensures.sides ∙ ap dest_equation concluded.value in
     let true_right : is_true b ≡ true = sym c.is_named.ensures ∙ c.if-not-is_named.false in
     let parts = truth-equation journal c.args.logic.now c.requires.logic concluded.legal premise concluded.theorem concluded.formula a b (sym dest) true_right in
-    answered-one c.by_theorem.result premise a (eqt_elim_outcome premise)
+    answered-one c.by_theorem_at_p.result premise a (eqt_elim_outcome premise)
     (ap (λ (o : Option (NamedTerm × NamedTerm)). given o BadShape (λ sides. unless (is_true sides.1) BadShape (stated (images premise) sides.0))) (sym dest)
     ∙ ap (λ test. unless test BadShape (stated (images premise) a)) true_right)
-    (λ room whole part. c.by_theorem.ensures.derives (images premise) (image premise.conclusion) room
-    (leads-p journal.theory 10 (equation p true_term) p a c.deref.result.now refl refl parts.formula
-    (c.deref.ensures.value ∙ c.in_ok-terms.ensures.ok) room (image premise.conclusion) (image a) parts.image_is refl
+    (λ room whole part. c.by_theorem_at_p.ensures.derives (images premise) (image premise.conclusion) room
+    (leads-p journal.theory 10 (equation p true_term) p a (at_p a) refl refl parts.formula
+    refl room (image premise.conclusion) (image a) parts.image_is refl
     (roomy-fits room (image premise.conclusion) whole) (roomy-fits room (image a) part))
     (shows-itself premise))
-    c.by_theorem.ensures.names
+    c.by_theorem_at_p.ensures.names
 
 pub returns-clause-inferred : goal.returns-clause-inferred
 returns-clause-inferred c = infers_eqt_elim c.requires.logic c.conclusion_of-conclusion.ensures.legal c.conclusion_of-conclusion.ensures.formula (returns-clause-outcome c)
 
-pub by_theorem-requires-clause-known : goal.by_theorem-requires-clause-known
-by_theorem-requires-clause-known c =
-    let journal = c.args.recorder.now in
-    let premise = c.args.premise.now.theorem in
-    let concluded = c.conclusion_of-conclusion.ensures in
-    let a = c.in-Some.parts.left.now in
-    let b = c.in-Some.parts.right.now in
-    let dest : sides_as a b ≡ dest_equation premise.conclusion = c.in-Some.ensures.sides ∙ ap dest_equation concluded.value in
-    let true_right : is_true b ≡ true = sym c.is_named.ensures ∙ c.if-not-is_named.false in
-    let parts = truth-equation journal c.args.logic.now c.requires.logic concluded.legal premise concluded.theorem concluded.formula a b (sym dest) true_right in
-    p-known journal.theory a c.deref.result.now (c.deref.ensures.value ∙ c.in_ok-terms.ensures.ok) parts.formula
-
-pub by_theorem-requires-clause-stated : goal.by_theorem-requires-clause-stated
-by_theorem-requires-clause-stated c =
+pub by_theorem_at_p-requires-clause-stated : goal.by_theorem_at_p-requires-clause-stated
+by_theorem_at_p-requires-clause-stated c =
     let journal = c.args.recorder.now in
     let premise = c.args.premise.now.theorem in
     let concluded = c.conclusion_of-conclusion.ensures in
@@ -61,5 +48,5 @@ by_theorem-requires-clause-stated c =
     let true_right : is_true b ≡ true = sym c.is_named.ensures ∙ c.if-not-is_named.false in
     (truth-equation journal c.args.logic.now c.requires.logic concluded.legal premise concluded.theorem concluded.formula a b (sym dest) true_right).formula
 
-pub returns-in_err-terms-clause-continues : goal.returns-in_err-terms-clause-continues
-returns-in_err-terms-clause-continues c = unchanged c.args.recorder.now c.from_residual.result c.from_residual.ensures.0
+pub by_theorem_at_p-requires-clause-formula : goal.by_theorem_at_p-requires-clause-formula
+by_theorem_at_p-requires-clause-formula c = by_theorem_at_p-requires-clause-stated c

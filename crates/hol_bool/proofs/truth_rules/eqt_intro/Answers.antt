@@ -7,13 +7,12 @@ use Rattle.hol_model.specs.Derived.DerivedRules.{images, eqt_intro_outcome}
 use Rattle.hol_model.proofs.Terms.Images.{image-equation}
 use Rattle.hol_prelude.specs.Prelude.{p}
 use Rattle.hol_equal.specs.Sequents.{DerivesIf}
-use Rattle.hol_bool.specs.PreludeInstances.{LeadsTo}
+use Rattle.hol_bool.specs.PreludeInstances.{LeadsTo, at_p}
 use Rattle.hol_equal.proofs.CutLemmas.{shows-itself}
 use Rattle.hol_bool.proofs.RoomLemmas.{equation-is, equation-past}
 use Rattle.hol_bool.proofs.RuleAnswers.{answered-one, leads-p, roomy-fits}
 use Rattle.hol_bool.proofs.TruthAnswers.{truth-fits}
 use Rattle.hol_bool.proofs.InferredRules.{infers_eqt_intro}
-use Rattle.hol_bool.proofs.PreludeSteps.{p-known}
 use Rattle.hol_bool.proofs.FormulaLemmas.{equation-formula, truth_is_formula, made-formula}
 use Rattle.hol_bool.proofs.Passing.{unchanged}
 use Rattle.hol_equal.proofs.StepLemmas.{passed_on}
@@ -44,27 +43,21 @@ returns-clause-outcome c =
     let stated_is : c.in_ok-stated.stated ≡ equation a true_term =
     equation-is c.in_ok-stated.stated a true_term c.conclusion_of-conclusion.result.now c.in_ok-truth.truth formula.typed refl concludes c.in_ok-truth.ensures.ok c.in_ok-stated.ensures in
     let image_is = image-equation a true_term bool_type formula.typed in
-    answered-one c.by_theorem.result premise (equation a true_term) (eqt_intro_outcome premise) refl
+    answered-one c.by_theorem_at_p.result premise (equation a true_term) (eqt_intro_outcome premise) refl
     (λ room whole part.
-    subst (λ (s : NamedTerm). LeadsTo theory 9 c.deref.result.now room (image a) (image s) → DerivesIf room c.by_theorem.result (images premise) (image s)) stated_is
-    (λ leads. c.by_theorem.ensures.derives (images premise) (image a) room leads (shows-itself premise))
-    (leads-p theory 9 p (equation p true_term) a c.deref.result.now refl refl formula
-    (c.deref.ensures.value ∙ c.in_ok-terms.ensures.ok ∙ ap (λ (t : NamedTerm). (t, p) ∷ []) concludes) room (image a)
+    subst (λ (s : NamedTerm). LeadsTo theory 9 (at_p c.conclusion_of-conclusion.result.now) room (image a) (image s) → DerivesIf room c.by_theorem_at_p.result (images premise) (image s)) stated_is
+    (λ leads. c.by_theorem_at_p.ensures.derives (images premise) (image a) room leads (shows-itself premise))
+    (leads-p theory 9 p (equation p true_term) a (at_p c.conclusion_of-conclusion.result.now) refl refl formula
+    (ap at_p concludes) room (image a)
     (image (equation a true_term)) refl image_is
     (roomy-fits room (image a) whole) (roomy-fits room (image (equation a true_term)) part)))
-    (subst (λ (s : NamedTerm). IfOk c.by_theorem.result (λ made. made.theorem.conclusion ≡ s)) stated_is c.by_theorem.ensures.names)
+    (subst (λ (s : NamedTerm). IfOk c.by_theorem_at_p.result (λ made. made.theorem.conclusion ≡ s)) stated_is c.by_theorem_at_p.ensures.names)
 
 pub returns-clause-inferred : goal.returns-clause-inferred
 returns-clause-inferred c = infers_eqt_intro c.conclusion_of-conclusion.ensures.formula (returns-clause-outcome c)
 
-pub by_theorem-requires-clause-known : goal.by_theorem-requires-clause-known
-by_theorem-requires-clause-known c =
-    let concluded = c.conclusion_of-conclusion.ensures in
-    p-known c.args.recorder.now.theory c.args.premise.now.theorem.conclusion c.deref.result.now
-    (c.deref.ensures.value ∙ c.in_ok-terms.ensures.ok ∙ ap (λ (t : NamedTerm). (t, p) ∷ []) concluded.value) concluded.formula
-
-pub by_theorem-requires-clause-stated : goal.by_theorem-requires-clause-stated
-by_theorem-requires-clause-stated c =
+pub by_theorem_at_p-requires-clause-stated : goal.by_theorem_at_p-requires-clause-stated
+by_theorem_at_p-requires-clause-stated c =
     let journal = c.args.recorder.now in
     let a = c.args.premise.now.theorem.conclusion in
     let concluded = c.conclusion_of-conclusion.ensures in
@@ -80,5 +73,7 @@ returns-in_err-truth-clause-continues c = unchanged c.args.recorder.now c.from_r
 pub returns-in_err-stated-clause-continues : goal.returns-in_err-stated-clause-continues
 returns-in_err-stated-clause-continues c = unchanged c.args.recorder.now c.from_residual-in_err-stated.result c.from_residual-in_err-stated.ensures.0
 
-pub returns-in_err-terms-clause-continues : goal.returns-in_err-terms-clause-continues
-returns-in_err-terms-clause-continues c = unchanged c.args.recorder.now c.from_residual-in_err-terms.result c.from_residual-in_err-terms.ensures.0
+pub by_theorem_at_p-requires-clause-formula : goal.by_theorem_at_p-requires-clause-formula
+by_theorem_at_p-requires-clause-formula c =
+    let concluded = c.conclusion_of-conclusion.ensures in
+    made-formula c.args.recorder.now.theory c.conclusion_of-conclusion.result.now c.args.premise.now.theorem.conclusion concluded.value concluded.formula
