@@ -38,8 +38,7 @@ use Rattle.hol_journal.specs.Steps.{sequent_of_theorem}
 use Rattle.hol_equal.specs.Sequents.{Shows}
 use Rattle.hol_equal.specs.Inferred.{IsDrawn, Infers}
 use Rattle.hol_model.proofs.Logic.Checks.{knows_nameless-Decides}
-use Rattle.hol_model.specs.Kernel.RuleOutcomes.{axiom_theorem}
-use Rattle.hol_model.specs.declared.rule.Axiom.TheVariants as axioms
+use Rattle.hol_model.specs.Kernel.NamedAxioms.{eta_theorem, select_theorem}
 use Rattle.hol_equal.proofs.CutLemmas.{shows-itself}
 use Rattle.hol_equal.proofs.StepLemmas.{changed-shows}
 use Rattle.hol_equal.proofs.DrawnTerms.{IsPremise, knows-image, walked_by, walked_known_by, one_premise, two_premises, same_set}
@@ -482,8 +481,8 @@ inst_type-drawn theory theta a result answers = record {
 
 -- ---- axioms
 
-pub eta-drawn : (theory : Theory) → KernelDraws theory rule_eta_axiom [] (Ok (axiom_theorem axioms.Eta theory))
+pub eta-drawn : (theory : Theory) → KernelDraws theory rule_eta_axiom [] (Ok (eta_theorem theory))
 eta-drawn theory = record { same_set = same_set refl; concludes = refl }
 
-pub select-drawn : (theory : Theory) → KernelDraws theory rule_select_axiom [] (Ok (axiom_theorem axioms.Select theory))
+pub select-drawn : (theory : Theory) → KernelDraws theory rule_select_axiom [] (Ok (select_theorem theory))
 select-drawn theory = record { same_set = same_set refl; concludes = refl }

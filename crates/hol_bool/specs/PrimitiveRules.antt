@@ -11,9 +11,8 @@ use Rattle.hol_model.specs.Derived.InferenceRules.{InferenceRule, rule_refl, rul
 use Rattle.hol_model.specs.Derived.InferenceRules.{rule_deduct_antisym, rule_inst, rule_inst_type, rule_eta_axiom, rule_select_axiom}
 use Rattle.hol_model.specs.Kernel.Instantiation.{inst_refusal, IsInst, inst_type_refusal, IsInstType}
 use Rattle.hol_equal.specs.Formulas.{IsFormula}
-use Rattle.hol_model.specs.Kernel.RuleOutcomes.{axiom_theorem}
+use Rattle.hol_model.specs.Kernel.NamedAxioms.{eta_theorem, select_theorem}
 use Rattle.hol_equal.specs.Inferred.{Infers}
-use Rattle.hol_model.specs.declared.rule.Axiom.TheVariants as axioms
 
 -- a call that answers the rule's outcome answers what is drawn
 abbrev pub OutcomeInfers : Theory → InferenceRule → List Theorem → Result Theorem Fault → Type 0
@@ -33,8 +32,8 @@ pub record OutcomesInfer (theory : Theory) : Type 0 where
       → AnswersSuch result (inst_refusal theory theta a) (IsInst theory theta a) → Infers theory (rule_inst theta) (a ∷ []) result
   pub inst_type : (theta : List (HolType × HolType)) (a : Theorem) (result : Result Theorem Fault)
       → AnswersSuch result (inst_type_refusal theory theta a) (IsInstType theory theta a) → Infers theory (rule_inst_type theta) (a ∷ []) result
-  pub eta : OutcomeInfers theory rule_eta_axiom [] (Ok (axiom_theorem axioms.Eta theory))
-  pub select : OutcomeInfers theory rule_select_axiom [] (Ok (axiom_theorem axioms.Select theory))
+  pub eta : OutcomeInfers theory rule_eta_axiom [] (Ok (eta_theorem theory))
+  pub select : OutcomeInfers theory rule_select_axiom [] (Ok (select_theorem theory))
 
 abbrev pub PrimitiveRulesInfer : Type 0
 PrimitiveRulesInfer = (theory : Theory) → IsLegal theory → OutcomesInfer theory

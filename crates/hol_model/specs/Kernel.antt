@@ -9,4 +9,3 @@ pub mod Acceptance
 pub mod Constructors
 pub mod Instantiation
 pub mod NamedAxioms
-pub mod RuleOutcomes

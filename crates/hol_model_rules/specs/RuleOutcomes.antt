@@ -2,7 +2,6 @@
 use Rattle.std.specs.Prelude.{◌≡◌, List, [], ◌∷◌, ◌++◌, Option, None, Some, Result, Ok, Err}
 use Rattle.hol_model.specs.declared.fault.Fault.{Fault}
 use Rattle.hol_model.specs.declared.fault.Fault.TheVariants.{InvalidStep}
-use Rattle.hol_model.specs.declared.rule.Axiom.TheVariants.{Eta, Select}
 use Rattle.hol_model.specs.Terms.NamedTerm.{NamedTerm}
 use Rattle.hol_model.specs.Terms.Nameless.{image}
 use Rattle.hol_model.specs.Logic.Theory.{Theory}
@@ -10,7 +9,7 @@ use Rattle.hol_model.specs.Kernel.Outcome.{Answers, AnswersSuch}
 use Rattle.hol_model.specs.Kernel.Theorem.{Theorem}
 use Rattle.hol_model.specs.Kernel.Rules.{refl_outcome, trans_outcome, mk_comb_outcome, abs_outcome, beta_outcome, assume_outcome, eq_mp_outcome, deduct_antisym_outcome}
 use Rattle.hol_model.specs.Kernel.Instantiation.{inst_refusal, IsInst, inst_type_refusal, IsInstType}
-use Rattle.hol_model.specs.Kernel.RuleOutcomes.{axiom_theorem}
+use Rattle.hol_model.specs.Kernel.NamedAxioms.{eta_theorem, select_theorem}
 use Rattle.hol_model.specs.Derived.DerivedRules.{AnswersStated, terms_of_theorem, sym_outcome, add_assum_outcome, prove_hyp_outcome}
 use Rattle.hol_model.specs.Derived.DerivedRules.{beta_conv_outcome, eqt_intro_outcome, eqt_elim_outcome, conj_outcome, conjunct1_outcome}
 use Rattle.hol_model.specs.Derived.DerivedRules.{conjunct2_outcome, disch_outcome, undisch_outcome, mp_outcome, spec_outcome, gen_outcome}
@@ -69,8 +68,8 @@ abbrev pub IsOutcomeOfNone : Theory → InferenceRule → Result Theorem Fault �
 IsOutcomeOfNone theory (rule_refl t) result = Answers result (refl_outcome theory t)
 IsOutcomeOfNone theory (rule_beta t) result = Answers result (beta_outcome theory t)
 IsOutcomeOfNone theory (rule_assume p) result = Answers result (assume_outcome theory p)
-IsOutcomeOfNone theory rule_eta_axiom result = Answers result (Ok (axiom_theorem Eta theory))
-IsOutcomeOfNone theory rule_select_axiom result = Answers result (Ok (axiom_theorem Select theory))
+IsOutcomeOfNone theory rule_eta_axiom result = Answers result (Ok (eta_theorem theory))
+IsOutcomeOfNone theory rule_select_axiom result = Answers result (Ok (select_theorem theory))
 IsOutcomeOfNone theory (rule_beta_conv t) result = AnswersStated result (image t ∷ []) (beta_conv_outcome theory t)
 IsOutcomeOfNone theory rule result = IsRefused result
 

@@ -15,7 +15,7 @@ use Rattle.hol_journal.specs.Growth.{IsGrown}
 use Rattle.hol_prelude_derivations.specs.Sketches.{followed, type_outcome, term_outcome}
 use Rattle.hol_prelude_derivations.specs.declared.sketch.TypeSketch.{TypeSketch}
 use Rattle.hol_prelude_derivations.specs.declared.sketch.TermSketch.{TermSketch}
-use Rattle.hol_model.specs.Kernel.RuleOutcomes.{axiom_theorem, term_rule_outcome, pair_rule_outcome}
+use Rattle.hol_prelude_derivations.specs.RuleOutcomes.{axiom_theorem, term_rule_outcome, pair_rule_outcome}
 use Rattle.hol_prelude_derivations.specs.declared.derivation.Derivation as derivations
 use Rattle.hol_prelude_derivations.specs.declared.derivation.Derivation.{Derivation}
 

@@ -1,3 +1,4 @@
 pub mod Sketches
+pub mod RuleOutcomes
 pub mod Derivations
 pub mod Makings

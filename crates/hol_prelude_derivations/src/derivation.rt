@@ -3,14 +3,15 @@ ghost use Rattle.std.specs.Prelude.{◌≡◌, Ok, slice_get};
 ghost use Rattle.hol_model.specs.declared.fault.Fault.TheVariants.{BadShape};
 ghost use Rattle.hol_model.specs.Kernel.Outcome.{Answers, given};
 ghost use Rattle.hol_model.specs.Kernel.Rules.{refl_outcome, eq_mp_outcome, abs_outcome};
-ghost use Rattle.hol_model.specs.Kernel.RuleOutcomes.{axiom_theorem, term_rule_outcome, pair_rule_outcome};
+ghost use Rattle.hol_prelude_derivations.specs.RuleOutcomes.{axiom_theorem, term_rule_outcome, pair_rule_outcome};
 ghost use Rattle.hol_journal.specs.Journal.{IsMade, theorem_in};
 ghost use Rattle.hol_prelude_derivations.specs.Sketches.{followed, term_outcome};
 ghost use Rattle.hol_prelude_derivations.specs.Derivations.{ap_term_of, ap_thm_of, turned, sym_of, inst_of, inst_type_of, derived_outcome, theorems, GoesOn, AreMade};
 
+use crate::rule::{Axiom, PairRule, TermRule};
 use crate::sketch::{TermSketch, TypeSketch, term_of, type_of};
 use hol_journal::{Rec, Recorder};
-use hol_model::{Axiom, Fault, PairRule, TermRule};
+use hol_model::Fault;
 use hol_terms::Term;
 use std::alloc::Global;
 

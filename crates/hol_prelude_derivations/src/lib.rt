@@ -7,5 +7,6 @@ pub mod formulas;
 pub mod logic;
 pub mod making;
 pub mod numbers;
+pub mod rule;
 pub mod sketch;
 pub mod truth;

@@ -1,8 +1,7 @@
 use Rattle.std.proofs.Common.{[], ◌∷◌, Ok}
 use Rattle.hol_model.specs.Kernel.Rules.{refl_outcome, assume_outcome, beta_outcome, trans_outcome, eq_mp_outcome, mk_comb_outcome, abs_outcome, deduct_antisym_outcome}
 use Rattle.hol_model.specs.Derived.InferenceRules.{rule_refl, rule_trans, rule_mk_comb, rule_abs, rule_beta, rule_assume, rule_eq_mp, rule_deduct_antisym, rule_eta_axiom, rule_select_axiom}
-use Rattle.hol_model.specs.Kernel.RuleOutcomes.{axiom_theorem}
-use Rattle.hol_model.specs.declared.rule.Axiom.TheVariants as axioms
+use Rattle.hol_model.specs.Kernel.NamedAxioms.{eta_theorem, select_theorem}
 use Rattle.hol_bool.proofs.DrawnPrimitives.{answers-infer, refl-drawn, assume-drawn, beta-drawn, trans-drawn, eq_mp-drawn, mk_comb-drawn, abs-drawn}
 use Rattle.hol_bool.proofs.DrawnPrimitives.{deduct_antisym-drawn, inst-drawn, inst_type-drawn, eta-drawn, select-drawn}
 use Rattle.hol_bool.proofs.table.primitive_rules_infer.Goals as goal
@@ -19,6 +18,6 @@ returns c = λ theory legal. record {
   deduct_antisym = λ a b first result. answers-infer theory rule_deduct_antisym (a ∷ b ∷ []) (deduct_antisym_outcome theory a b) result (deduct_antisym-drawn theory a b first);
   inst = inst-drawn theory;
   inst_type = inst_type-drawn theory;
-  eta = λ result. answers-infer theory rule_eta_axiom [] (Ok (axiom_theorem axioms.Eta theory)) result (eta-drawn theory);
-  select = λ result. answers-infer theory rule_select_axiom [] (Ok (axiom_theorem axioms.Select theory)) result (select-drawn theory);
+  eta = λ result. answers-infer theory rule_eta_axiom [] (Ok (eta_theorem theory)) result (eta-drawn theory);
+  select = λ result. answers-infer theory rule_select_axiom [] (Ok (select_theorem theory)) result (select-drawn theory);
 }

@@ -1,6 +1,6 @@
 use Rattle.std.proofs.Common.{refl}
-use Rattle.hol_model.specs.Kernel.RuleOutcomes.{axiom_theorem}
-use Rattle.hol_model.specs.declared.rule.Axiom.TheVariants as axioms
+use Rattle.hol_prelude_derivations.specs.RuleOutcomes.{axiom_theorem}
+use Rattle.hol_prelude_derivations.specs.declared.rule.Axiom.TheVariants as axioms
 use Rattle.hol_prelude_derivations.proofs.DerivationLemmas.{axiom-goes_on}
 use Rattle.hol_prelude_derivations.proofs.derivation.by_axiom.Goals as goal
 

@@ -1,7 +1,7 @@
-// Rules, by the arguments that a script gives them.
+// The kernel's rules that a derivation names.
 
 /// A rule for a term.
-#[derive(Clone, Copy, PartialEq, Eq)]
+#[derive(Clone, Copy)]
 pub enum TermRule {
     Refl,
     Beta,
@@ -9,7 +9,7 @@ pub enum TermRule {
 }
 
 /// A rule for two theorems.
-#[derive(Clone, Copy, PartialEq, Eq)]
+#[derive(Clone, Copy)]
 pub enum PairRule {
     Trans,
     MkComb,
@@ -18,7 +18,7 @@ pub enum PairRule {
 }
 
 /// An axiom.
-#[derive(Clone, Copy, PartialEq, Eq)]
+#[derive(Clone, Copy)]
 pub enum Axiom {
     Eta,
     Select,
