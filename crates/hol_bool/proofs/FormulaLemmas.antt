@@ -1,8 +1,9 @@
 -- Formulas of a recorder's theory: conclusions, their parts, and terms that come in.
-use Rattle.std.proofs.Common.{◌≡◌, ℕ, List, true, false, refl, inr, sym, ◌∙◌, ap, subst, Option, Some, None, IfSome}
+use Rattle.std.proofs.Common.{◌≡◌, ◌⊎◌, ℕ, List, true, false, refl, inl, inr, sym, ◌∙◌, ap, subst, Option, Some, None, Result, Ok, Err, IfSome, IfErr}
+use Rattle.std.specs.Prelude.{OnOk}
 use Rattle.std.specs.Option.{option_map, option_map_or}
 use Rattle.hol_model.specs.declared.fault.Fault.{Fault}
-use Rattle.hol_model.specs.declared.fault.Fault.TheVariants.{NotBool}
+use Rattle.hol_model.specs.declared.fault.Fault.TheVariants.{Memory, NotBool}
 use Rattle.hol_model.specs.Terms.HolType.{HolType, type_variable, bool_type, type_eq}
 use Rattle.hol_model.specs.Terms.NamedTerm.{NamedTerm, constant, equation, type_of}
 use Rattle.hol_model.specs.Terms.Nameless.{Nameless, const, app, image}
@@ -153,3 +154,16 @@ pub passed : (theory : Theory) (term : NamedTerm) → is_formula term ≡ true �
 passed theory term is known =
     let typed = typed-formula term is in
     record { is_formula = is; is_known = known; formula = record { typed = typed; known = known_term theory term bool_type known typed } }
+
+pub formula-refused : {T : Type 0} (theory : Theory) (term : NamedTerm) (result : Result T Fault) → is_formula term ≡ true
+    → IfErr result (λ fault. (fault ≡ Memory) ⊎ (first_unknown theory term ≡ Some fault)) → IfErr result (IsRefused theory term)
+formula-refused theory term (Ok done) is refused = tt
+formula-refused theory term (Err fault) is refused = elim refused [
+  | inl memory ↦ inl memory
+  | inr unknown ↦ unknown-formula theory term fault is unknown
+]
+
+pub formula-passed : {T : Type 0} (theory : Theory) (term : NamedTerm) (result : Result T Fault) → is_formula term ≡ true
+    → OnOk result (first_unknown theory term ≡ None) → OnOk result (IsPassed theory term)
+formula-passed theory term (Ok done) is known = passed theory term is known
+formula-passed theory term (Err fault) is known = tt

@@ -1,5 +1,5 @@
 -- What `?` returns before the first step.
-use Rattle.std.proofs.Common.{◌≡◌, [], Result, Ok, Err, refl, sym, append-nil}
+use Rattle.std.proofs.Common.{[], Result, Ok, Err, refl, sym, append-nil}
 use Rattle.std.specs.Result.{IsErr}
 use Rattle.hol_model.specs.declared.fault.Fault.{Fault}
 use Rattle.hol_model.proofs.Logic.Earlier.{earlier-same}

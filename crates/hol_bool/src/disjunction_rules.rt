@@ -1,5 +1,5 @@
 // Rules of disjunction.
-ghost use Rattle.std.specs.Prelude.{◌≡◌, ◌++◌, ◌∷◌, List, IfOk, Some, []};
+ghost use Rattle.std.specs.Prelude.{◌≡◌, ◌<◌, ◌++◌, ◌∷◌, List, IfOk, Some, [], length};
 ghost use Rattle.hol_model.specs.Terms.HolType.{bool_type};
 ghost use Rattle.hol_model.specs.Terms.NamedTerm.{type_of};
 ghost use Rattle.hol_model.specs.Terms.Nameless.{Nameless, image};
@@ -9,10 +9,11 @@ ghost use Rattle.hol_model.specs.Logic.Derivable.{without, nameless_equation};
 ghost use Rattle.hol_model.specs.Derived.DerivedRules.{AnswersStated, terms_of_theorem, disj1_outcome, disj2_outcome, disj_cases_outcome};
 ghost use Rattle.hol_model.specs.Derived.InferenceRules.{rule_disj1, rule_disj2, rule_disj_cases};
 ghost use Rattle.hol_journal.specs.Journal.{IsMade, theorem_in};
+ghost use Rattle.hol_prelude.specs.Prelude.{prelude_theorems};
 ghost use Rattle.hol_prelude.specs.HasLogic.{HasLogic};
 ghost use Rattle.hol_equal.specs.Formulas.{IsFormula};
 ghost use Rattle.hol_equal.specs.Room.{Room, FitsIf, MakesIf};
-ghost use Rattle.hol_bool.specs.Disjunctions.{LeavesRoomIf, other_case, both_cases};
+ghost use Rattle.hol_bool.specs.Disjunctions.{LeavesRoomIf, MakesDisjunction, other_case, both_cases};
 ghost use Rattle.hol_equal.specs.Sequents.{Shows, DerivesIf, Continues};
 ghost use Rattle.hol_equal.specs.Inferred.{Infers};
 
@@ -27,6 +28,31 @@ use hol_prelude::Bool;
 use hol_prelude::numbers::{DISJ_CASES, DISJ1, DISJ2};
 use hol_terms::Term;
 use std::alloc::Global;
+
+// From the side of `p \/ q` that the theorem of this number of the prelude takes, `p \/ q`.
+fn with_disjunct(
+    recorder: &mut Recorder,
+    alloc: Global,
+    logic: &Bool,
+    number: usize,
+    p: &Term,
+    q: &Term,
+    premise: &Rec,
+) -> Result<Rec, Fault>
+    requires logic { HasLogic recorder.old logic.now }
+    requires number { number < length prelude_theorems }
+    requires left { IsFormula recorder.old.theory p.now }
+    requires right { IsFormula recorder.old.theory q.now }
+    requires premise { IsMade recorder.old premise.now }
+    ensures continues { Continues recorder.old recorder.new result }
+    ensures names { IfOk result (λ made. made.theorem.conclusion ≡ disjunction p.now q.now) }
+    ensures derives { MakesDisjunction recorder.old.theory number p.now q.now premise.now.theorem result }
+{
+    recorder.theory_is_legal();
+    let stated = connect(alloc, "\\/", p, q)?;
+    let terms = for_p_q(alloc, p, q)?;
+    by_theorem(recorder, alloc, logic, number, &terms, &stated, premise)
+}
 
 /// DISJ1: from `p`, `p \/ q`, in six steps. Refused where `q` is not of type `bool`, and then where the theory does not
 /// know a type or a constant of it.
@@ -47,9 +73,7 @@ pub fn disj1(
     let _type = q.ty();
     pass_formula(recorder, q)?;
     let p = conclusion_of(recorder, premise);
-    let stated = connect(alloc, "\\/", p, q)?;
-    let terms = for_p_q(alloc, p, q)?;
-    by_theorem(recorder, alloc, logic, DISJ1, &terms, &stated, premise)
+    with_disjunct(recorder, alloc, logic, DISJ1, p, q, premise)
 }
 
 /// DISJ2: from `q`, `p \/ q`, in six steps. Refused where `p` is not of type `bool`, and then where the theory does not
@@ -71,9 +95,7 @@ pub fn disj2(
     let _type = p.ty();
     pass_formula(recorder, p)?;
     let q = conclusion_of(recorder, premise);
-    let stated = connect(alloc, "\\/", p, q)?;
-    let terms = for_p_q(alloc, p, q)?;
-    by_theorem(recorder, alloc, logic, DISJ2, &terms, &stated, premise)
+    with_disjunct(recorder, alloc, logic, DISJ2, p, q, premise)
 }
 
 // `(q ==> r) ==> r`, of formulas.

@@ -18,13 +18,13 @@ use std::alloc::Global;
 
 /// The sides of a formula.
 #[derive(Clone, Copy)]
-pub(crate) struct Sides<'a> {
-    pub(crate) left: &'a Term,
-    pub(crate) right: &'a Term,
+pub struct Sides<'a> {
+    pub left: &'a Term,
+    pub right: &'a Term,
 }
 
 /// The sides of a formula of the binary connective of this name.
-pub(crate) fn connected_sides<'a>(term: &'a Term, name: &str) -> Option<Sides<'a>>
+pub fn connected_sides<'a>(term: &'a Term, name: &str) -> Option<Sides<'a>>
     ensures { option_map (λ sides. (sides.left.now, sides.right.now)) result ≡ dest_connected name.now term.now }
 {
     match term.parts() {
@@ -46,7 +46,7 @@ pub(crate) fn connected_sides<'a>(term: &'a Term, name: &str) -> Option<Sides<'a
 }
 
 /// The formula under a negation.
-pub(crate) fn negated_part(term: &Term) -> Option<&Term>
+pub fn negated_part(term: &Term) -> Option<&Term>
     ensures { option_map (λ part. part.now) result ≡ dest_negation term.now }
 {
     match term.parts() {
@@ -78,7 +78,7 @@ pub(crate) fn truth(alloc: Global) -> Result<Term, Fault>
 }
 
 /// `F`.
-pub(crate) fn falsity(alloc: Global) -> Result<Term, Fault>
+pub fn falsity(alloc: Global) -> Result<Term, Fault>
     ensures ok { IfOk result (λ term. term ≡ false_term) }
     ensures err { IfErr result (λ fault. fault ≡ Memory) }
 {
@@ -87,7 +87,7 @@ pub(crate) fn falsity(alloc: Global) -> Result<Term, Fault>
 }
 
 /// The equation of two formulas.
-pub(crate) fn equivalence(alloc: Global, left: &Term, right: &Term) -> Result<Term, Fault>
+pub fn equivalence(alloc: Global, left: &Term, right: &Term) -> Result<Term, Fault>
     ensures { (room : Room) → type_of left.now ≡ Some bool_type → type_of right.now ≡ Some bool_type
         → FitsIf room (image (equation left.now right.now)) → MakesIf room result (equation left.now right.now) }
 {
@@ -204,14 +204,16 @@ fn negation_constant(alloc: Global) -> Result<Term, Fault>
     Term::mk_const(alloc, "~", &unary)
 }
 
-// The variable of this name of type `bool`.
-fn proposition(alloc: Global, name: &str) -> Result<Term, Fault>
+/// The formula, for the variable of this name and of type `bool`.
+pub fn formula_pair(alloc: Global, formula: &Term, name: &str) -> Result<(Term, Term), Fault>
     requires { is_identifier name.now ≡ true }
-    ensures ok { IfOk result (λ term. term ≡ variable name.now bool_type) }
+    ensures ok { IfOk result (λ pair. pair ≡ (formula.now, variable name.now bool_type)) }
     ensures err { IfErr result (λ fault. fault ≡ Memory) }
 {
+    let new = formula.copy(alloc)?;
     let boolean = Ty::boolean(alloc)?;
-    Term::mk_var(alloc, name, &boolean)
+    let old = Term::mk_var(alloc, name, &boolean)?;
+    Ok((new, old))
 }
 
 /// The formula for the variable `p`.
@@ -220,17 +222,17 @@ pub(crate) fn for_p(alloc: Global, p: &Term) -> Result<Vec<(Term, Term)>, Fault>
     ensures err { IfErr result (λ fault. fault ≡ Memory) }
 {
     let mut terms = Vec::new(alloc);
-    terms.push((p.copy(alloc)?, proposition(alloc, "p")?))?;
+    terms.push(formula_pair(alloc, p, "p")?)?;
     Ok(terms)
 }
 
 /// The formulas for the variables `p` and `q`.
-pub(crate) fn for_p_q(alloc: Global, p: &Term, q: &Term) -> Result<Vec<(Term, Term)>, Fault>
+pub fn for_p_q(alloc: Global, p: &Term, q: &Term) -> Result<Vec<(Term, Term)>, Fault>
     ensures ok { IfOk result (λ terms. terms.items ≡ at_p_q p.now q.now) }
     ensures err { IfErr result (λ fault. fault ≡ Memory) }
 {
     let mut terms = for_p(alloc, p)?;
-    terms.push((q.copy(alloc)?, proposition(alloc, "q")?))?;
+    terms.push(formula_pair(alloc, q, "q")?)?;
     Ok(terms)
 }
 
@@ -245,6 +247,6 @@ pub(crate) fn for_p_q_r(
     ensures err { IfErr result (λ fault. fault ≡ Memory) }
 {
     let mut terms = for_p_q(alloc, p, q)?;
-    terms.push((r.copy(alloc)?, proposition(alloc, "r")?))?;
+    terms.push(formula_pair(alloc, r, "r")?)?;
     Ok(terms)
 }

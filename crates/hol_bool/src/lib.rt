@@ -17,8 +17,12 @@ mod truth_rules;
 pub use axiom_rules::{eta_ax, select_ax};
 pub use conjunction_rules::{conj, conjunct1, conjunct2};
 pub use disjunction_rules::{disj_cases, disj1, disj2};
+pub use formula_terms::{
+    Sides, connected_sides, equivalence, falsity, for_p_q, formula_pair, negated_part,
+};
 pub use implication_rules::{disch, disch_in_room, mp, mp_in_room, undisch};
 pub use middle_rules::excluded_middle;
 pub use negation_rules::{contr, not_elim, not_intro};
+pub use prelude_rules::{pass_formula, pass_known};
 pub use table::primitive_rules_infer;
 pub use truth_rules::{eqt_elim, eqt_intro};

@@ -1,18 +1,20 @@
 // Steps by the theorems of the prelude.
-ghost use Rattle.std.specs.Prelude.{◌≡◌, ◌<◌, List, [], IfOk, IfErr, OnOk, IfSome, Some, None, false, length};
+ghost use Rattle.std.specs.Prelude.{◌≡◌, ◌<◌, ◌⊎◌, [], IfOk, IfErr, OnOk, IfSome, Some, None, false, length};
 ghost use Rattle.std.specs.Option.{option_map};
+ghost use Rattle.hol_model.specs.declared.fault.Fault.TheVariants.{Memory};
 ghost use Rattle.hol_model.specs.Logic.Theory.{IsLegal, generic_type};
 ghost use Rattle.hol_model.specs.Logic.Logic.{logical_definitions, binary};
 ghost use Rattle.hol_model.specs.Logic.NamedLogic.{dest_connected, dest_negation};
-ghost use Rattle.hol_model.specs.Terms.Nameless.{Nameless, image};
+ghost use Rattle.hol_model.specs.Terms.Nameless.{image};
 ghost use Rattle.hol_model.specs.Kernel.Instantiation.{replacements_refusal};
+ghost use Rattle.hol_model.specs.Kernel.Rules.{first_unknown};
 ghost use Rattle.hol_journal.specs.Journal.{IsMade};
 ghost use Rattle.hol_prelude.specs.Prelude.{prelude_theorems};
 ghost use Rattle.hol_prelude.specs.HasLogic.{HasLogic};
 ghost use Rattle.hol_equal.specs.Formulas.{IsFormula, AreSides, IsNegated, IsPassed, IsRefused};
 ghost use Rattle.hol_equal.specs.Room.{Room};
-ghost use Rattle.hol_equal.specs.Sequents.{Shows, DerivesIf, Continues};
-ghost use Rattle.hol_bool.specs.PreludeInstances.{LeadsTo, Says};
+ghost use Rattle.hol_equal.specs.Sequents.{DerivesIf, Continues};
+ghost use Rattle.hol_bool.specs.PreludeInstances.{LeadsTo, Says, TheoremDerives};
 
 use crate::formula_terms::{Sides, connected_sides, negated_part};
 use hol_equal::{by_lemma_known, conclusion_of, instance_known, named_known, named_same};
@@ -40,8 +42,7 @@ pub(crate) fn by_theorem(
     requires stated { IsFormula recorder.old.theory stated.now }
     ensures continues { Continues recorder.old recorder.new result }
     ensures names { IfOk result (λ made. made.theorem.conclusion ≡ stated.now) }
-    ensures derives { (h : List Nameless) (p : Nameless) (room : Room) → LeadsTo recorder.old.theory number terms.now room p (image stated.now)
-        → Shows premise.now.theorem h p → DerivesIf room result h (image stated.now) }
+    ensures derives { TheoremDerives recorder.old.theory number terms.now stated.now premise.now.theorem result }
 {
     let lemma = theorem_of(recorder, logic, number);
     let answer = by_lemma_known(recorder, alloc, &[], terms, lemma, premise)?;
@@ -66,8 +67,7 @@ pub(crate) fn by_leading_theorem(
     requires leads { LeadsTo recorder.old.theory number terms.now false (image premise.now.theorem.conclusion) (image stated.now) }
     ensures continues { Continues recorder.old recorder.new result }
     ensures names { IfOk result (λ made. made.theorem.conclusion ≡ stated.now) }
-    ensures derives { (h : List Nameless) (p : Nameless) (room : Room) → LeadsTo recorder.old.theory number terms.now room p (image stated.now)
-        → Shows premise.now.theorem h p → DerivesIf room result h (image stated.now) }
+    ensures derives { TheoremDerives recorder.old.theory number terms.now stated.now premise.now.theorem result }
 {
     let lemma = theorem_of(recorder, logic, number);
     let answer = by_lemma_known(recorder, alloc, &[], terms, lemma, premise)?;
@@ -132,16 +132,24 @@ pub(crate) fn negated_of<'a>(
     negated_part(conclusion_of(recorder, premise))
 }
 
+/// Walks a term that comes in: the theory is to know its types and constants.
+pub fn pass_known(recorder: &Recorder, term: &Term) -> Result<(), Fault>
+    ensures ok { OnOk result (first_unknown recorder.now.theory term.now ≡ None) }
+    ensures err { IfErr result (λ fault. (fault ≡ Memory) ⊎ (first_unknown recorder.now.theory term.now ≡ Some fault)) }
+{
+    match recorder.theory().first_unknown(term) {
+        Some(fault) => Err(fault),
+        None => Ok(()),
+    }
+}
+
 /// Walks a term that comes in: it is to be a formula that the theory knows.
-pub(crate) fn pass_formula(recorder: &Recorder, term: &Term) -> Result<(), Fault>
+pub fn pass_formula(recorder: &Recorder, term: &Term) -> Result<(), Fault>
     ensures ok { OnOk result (IsPassed recorder.now.theory term.now) }
     ensures err { IfErr result (IsRefused recorder.now.theory term.now) }
 {
     if !term.ty().is_bool() {
         return Err(Fault::NotBool);
     }
-    match recorder.theory().first_unknown(term) {
-        Some(fault) => Err(fault),
-        None => Ok(()),
-    }
+    pass_known(recorder, term)
 }

@@ -1,5 +1,5 @@
 -- SPEC: the lemma at a predicate and an element, and the answer.
-use Rattle.std.proofs.Common.{◌≡◌, ℕ, List, [], ◌∷◌, ◌++◌, true, refl, sym, ◌∙◌, ap, subst, inl, inr, Some, None, Result, Ok, Err, IfOk, arith}
+use Rattle.std.proofs.Common.{◌≡◌, ◌⊎◌, ℕ, List, [], ◌∷◌, ◌++◌, true, refl, sym, ◌∙◌, ap, subst, inl, inr, Some, None, Result, Ok, Err, IfOk, arith}
 use Rattle.std.specs.Prelude.{codes}
 use Rattle.std.specs.List.{list_all}
 use Rattle.hol_model.specs.declared.fault.Fault.{Fault}
@@ -73,8 +73,14 @@ module _ (theory : Theory) (term : NamedTerm) (premise : Theorem) (function bind
       concludes (Ok made) shown = shown.concludes
       concludes (Err fault) shown = tt
 
-  pub spec-unknown : (fault : Fault) → first_unknown theory term ≡ Some fault → AnswersStated (Err fault) arguments (spec_outcome theory term premise)
+  spec-unknown : (fault : Fault) → first_unknown theory term ≡ Some fault → AnswersStated (Err fault) arguments (spec_outcome theory term premise)
   spec-unknown fault is = rw (at.dest, typed, type_eq-self at.ty, is) (inr refl)
+
+  pub spec-refused : (fault : Fault) → (fault ≡ Memory) ⊎ (first_unknown theory term ≡ Some fault) → AnswersStated (Err fault) arguments (spec_outcome theory term premise)
+  spec-refused fault refused = elim refused [
+    | inl memory ↦ memory-answers fault arguments (spec_outcome theory term premise) memory
+    | inr unknown ↦ spec-unknown fault unknown
+  ]
 
   -- what leaves room
   pub record SpecRoom : Type 0 where

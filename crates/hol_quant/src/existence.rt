@@ -19,10 +19,11 @@ ghost use Rattle.hol_equal.specs.Sequents.{Shows, DerivesIf, Continues};
 ghost use Rattle.hol_equal.specs.Inferred.{Infers};
 ghost use Rattle.hol_quant.specs.QuantifiedParts.{IsWitnessed, witnessed_terms};
 
-use crate::generalization::{equal_to_truth, formula_pair};
+use crate::generalization::equal_to_truth;
 use crate::instances::by_predicate_lemma;
 use crate::parts::{Quantified, quantified_parts};
 use hol_alpha::aconv;
+use hol_bool::{formula_pair, pass_known};
 use hol_equal::{by_lemma, converted, named, trans};
 use hol_journal::{Rec, Recorder};
 use hol_model::Fault;
@@ -30,17 +31,6 @@ use hol_prelude::{Bool, numbers, theorem_of};
 use hol_subst::vsubst;
 use hol_terms::Term;
 use std::alloc::Global;
-
-// Walks a term that comes in: the theory is to know its types and constants.
-fn pass_known(recorder: &Recorder, term: &Term) -> Result<(), Fault>
-    ensures ok { OnOk result (first_unknown recorder.now.theory term.now ≡ None) }
-    ensures err { IfErr result (λ fault. (fault ≡ Memory) ⊎ (first_unknown recorder.now.theory term.now ≡ Some fault)) }
-{
-    match recorder.theory().first_unknown(term) {
-        Some(fault) => Err(fault),
-        None => Ok(()),
-    }
-}
 
 // Whether the body of an abstraction, with the argument for its variable, is the other term up to the names of bound
 // variables. Past the limits it is not, since the other term is within them.
@@ -71,24 +61,25 @@ fn is_body_with(
 fn from_truth(
     recorder: &mut Recorder,
     alloc: Global,
-    lemma: &Rec,
+    logic: &Bool,
     formula: &Term,
     premise: &Rec,
 ) -> Result<Rec, Fault>
-    requires lemma { IsMade recorder.old lemma.now }
-    requires shows { Shows lemma.now.theorem (nameless_equation bool_type (free (codes "p") bool_type) (image true_term) ∷ []) (free (codes "p") bool_type) }
+    requires logic { HasLogic recorder.old logic.now }
     requires premise { IsMade recorder.old premise.now }
     ensures continues { Continues recorder.old recorder.new result }
     ensures derives { (room : Room) (h : List Nameless) → IsKnown recorder.old.theory (image formula.now) bool_type → FitsIf room (image formula.now)
         → Shows premise.now.theorem h (nameless_equation bool_type (image formula.now) (image true_term))
         → DerivesIf room result h (image formula.now) }
 {
-    let of_formula = formula_pair(alloc, formula)?;
+    let lemma = theorem_of(recorder, logic, numbers::EQT_ELIM);
+    let of_formula = formula_pair(alloc, formula, "p")?;
     let terms = [of_formula];
     by_lemma(recorder, alloc, &[], &terms, lemma, premise)
 }
 
 // From `p[w/x]`, `(\x. p) w`.
+#[tactic(auto, using(hol_bool::proofs::PreludeSteps::staying))]
 fn expanded(
     recorder: &mut Recorder,
     alloc: Global,
@@ -106,13 +97,11 @@ fn expanded(
         (witnessed_terms formula witness.now (image premise.now.theorem.conclusion))) result (images premise.now.theorem)
         (app (image parts.entry.predicate.now) (image witness.now)) }
 {
-    let truth_lemma = theorem_of(recorder, logic, numbers::EQT_INTRO);
-    let back_lemma = theorem_of(recorder, logic, numbers::EQT_ELIM);
     let redex = Term::mk_comb(alloc, parts.predicate, witness)?;
     let conversion = converted(recorder, alloc, parts.predicate, parts.binder, witness)?;
-    let equal = equal_to_truth(recorder, alloc, truth_lemma, premise)?;
+    let equal = equal_to_truth(recorder, alloc, logic, premise)?;
     let redex_equal = trans(recorder, alloc, &conversion, &equal)?;
-    from_truth(recorder, alloc, back_lemma, &redex, &redex_equal)
+    from_truth(recorder, alloc, logic, &redex, &redex_equal)
 }
 
 // From `p[w/x]`, `?x. p`.

@@ -20,6 +20,7 @@ ghost use Rattle.hol_quant.specs.PredicateLemmas.{AreKnown, is_always, over_pred
 ghost use Rattle.hol_quant.specs.Universals.{IsKnownVariable, for_all, MayGeneralize, FitsForAll};
 
 use crate::instances::by_predicate_lemma;
+use hol_bool::formula_pair;
 use hol_equal::{abs, by_lemma_known, conclusion_of, named_same};
 use hol_journal::{Rec, Recorder};
 use hol_model::Fault;
@@ -28,33 +29,22 @@ use hol_terms::{Term, is_free};
 use hol_types::Ty;
 use std::alloc::Global;
 
-// The formula, for the variable `p`.
-pub(crate) fn formula_pair(alloc: Global, formula: &Term) -> Result<(Term, Term), Fault>
-    ensures ok { IfOk result (λ pair. pair ≡ (formula.now, variable (codes "p") bool_type)) }
-    ensures err { IfErr result (λ fault. fault ≡ Memory) }
-{
-    let new = formula.copy(alloc)?;
-    let boolean = Ty::boolean(alloc)?;
-    let old = Term::mk_var(alloc, "p", &boolean)?;
-    Ok((new, old))
-}
-
 // From `p`, `p <=> T`.
 pub(crate) fn equal_to_truth(
     recorder: &mut Recorder,
     alloc: Global,
-    lemma: &Rec,
+    logic: &Bool,
     premise: &Rec,
 ) -> Result<Rec, Fault>
-    requires lemma { IsMade recorder.old lemma.now }
-    requires shows { Shows lemma.now.theorem (free (codes "p") bool_type ∷ []) (nameless_equation bool_type (free (codes "p") bool_type) (image true_term)) }
+    requires logic { HasLogic recorder.old logic.now }
     requires premise { IsMade recorder.old premise.now }
     ensures continues { Continues recorder.old recorder.new result }
     ensures derives { (room : Room) → FitsIf room (image premise.now.theorem.conclusion)
         → DerivesIf room result (images premise.now.theorem) (nameless_equation bool_type (image premise.now.theorem.conclusion) (image true_term)) }
 {
     recorder.theory_is_legal();
-    let of_formula = formula_pair(alloc, recorder.thm(premise).concl())?;
+    let lemma = theorem_of(recorder, logic, numbers::EQT_INTRO);
+    let of_formula = formula_pair(alloc, recorder.thm(premise).concl(), "p")?;
     let terms = [of_formula];
     by_lemma_known(recorder, alloc, &[], &terms, lemma, premise)
 }
@@ -85,16 +75,12 @@ fn is_free_in_some(hypotheses: &[Term], name: &str, ty: &Ty) -> bool
 fn over_all(
     recorder: &mut Recorder,
     alloc: Global,
-    truth_lemma: &Rec,
-    forall_lemma: &Rec,
+    logic: &Bool,
     binder: &Term,
     function: &Term,
     premise: &Rec,
 ) -> Result<Rec, Fault>
-    requires truth_lemma { IsMade recorder.old truth_lemma.now }
-    requires truth_shows { Shows truth_lemma.now.theorem (free (codes "p") bool_type ∷ []) (nameless_equation bool_type (free (codes "p") bool_type) (image true_term)) }
-    requires forall_lemma { IsMade recorder.old forall_lemma.now }
-    requires forall_shows { Shows forall_lemma.now.theorem (is_always ∷ []) (over_predicate forall_name) }
+    requires logic { HasLogic recorder.old logic.now }
     requires premise { IsMade recorder.old premise.now }
     requires known { AreKnown recorder.old.theory function.now binder.now }
     ensures continues { Continues recorder.old recorder.new result }
@@ -103,9 +89,10 @@ fn over_all(
         → DerivesIf room result (images premise.now.theorem) (for_all name ty premise.now.theorem.conclusion) }
 {
     let _formula = conclusion_of(recorder, premise);
-    let equal = equal_to_truth(recorder, alloc, truth_lemma, premise)?;
+    let lemma = theorem_of(recorder, logic, numbers::GEN);
+    let equal = equal_to_truth(recorder, alloc, logic, premise)?;
     let always = abs(recorder, alloc, binder, &equal)?;
-    by_predicate_lemma(recorder, alloc, forall_lemma, function, binder, &always)
+    by_predicate_lemma(recorder, alloc, lemma, function, binder, &always)
 }
 
 // GEN, with the room that it needs: from `p`, `!x. p` up to the names of bound variables.
@@ -124,62 +111,9 @@ pub(crate) fn gen_in_room(
         → FitsForAll room name ty premise.now.theorem.conclusion → DerivesIf room result (images premise.now.theorem)
         (for_all name ty premise.now.theorem.conclusion) }
 {
-    let truth_lemma = theorem_of(recorder, logic, numbers::EQT_INTRO);
-    let forall_lemma = theorem_of(recorder, logic, numbers::GEN);
     let formula = conclusion_of(recorder, premise);
     let function = Term::mk_abs(alloc, binder, formula)?;
-    over_all(
-        recorder,
-        alloc,
-        truth_lemma,
-        forall_lemma,
-        binder,
-        &function,
-        premise,
-    )
-}
-
-// From `p`, `!x. p`.
-fn gen_by_lemmas(
-    recorder: &mut Recorder,
-    alloc: Global,
-    truth_lemma: &Rec,
-    forall_lemma: &Rec,
-    binder: &Term,
-    premise: &Rec,
-) -> Result<Rec, Fault>
-    requires truth_lemma { IsMade recorder.old truth_lemma.now }
-    requires truth_shows { Shows truth_lemma.now.theorem (free (codes "p") bool_type ∷ []) (nameless_equation bool_type (free (codes "p") bool_type) (image true_term)) }
-    requires forall_lemma { IsMade recorder.old forall_lemma.now }
-    requires forall_shows { Shows forall_lemma.now.theorem (is_always ∷ []) (over_predicate forall_name) }
-    requires premise { IsMade recorder.old premise.now }
-    ensures continues { Continues recorder.old recorder.new result }
-    ensures outcome { AnswersStated (theorem_in result) (terms_of_theorem premise.now.theorem) (gen_outcome recorder.old.theory binder.now premise.now.theorem) }
-{
-    let Some((name, ty)) = binder.dest_var() else {
-        return Err(Fault::NotVariable);
-    };
-    if !recorder.theory().known(binder) {
-        return Err(Fault::UnknownType);
-    }
-    let theorem = recorder.thm(premise);
-    if is_free_in_some(theorem.hyps(), name, ty) {
-        return Err(Fault::FreeInHypothesis);
-    }
-    recorder.theory_is_legal();
-    let function = Term::mk_abs(alloc, binder, theorem.concl())?;
-    let formula = universal(alloc, &function)?;
-    let answer = over_all(
-        recorder,
-        alloc,
-        truth_lemma,
-        forall_lemma,
-        binder,
-        &function,
-        premise,
-    )?;
-    let _answer = conclusion_of(recorder, &answer);
-    named_same(recorder, alloc, &formula, &answer)
+    over_all(recorder, alloc, logic, binder, &function, premise)
 }
 
 /// GEN: from `p`, `!x. p`, by the lemmas `p |- p <=> T` and `P = (\x. T) |- (!) P`, in eleven steps. Refused where the
@@ -199,7 +133,20 @@ pub fn generalize(
     ensures outcome { AnswersStated (theorem_in result) (terms_of_theorem premise.now.theorem) (gen_outcome recorder.old.theory binder.now premise.now.theorem) }
     ensures inferred { Infers recorder.old.theory (rule_gen binder.now) (premise.now.theorem ∷ []) (theorem_in result) }
 {
-    let truth_lemma = theorem_of(recorder, logic, numbers::EQT_INTRO);
-    let forall_lemma = theorem_of(recorder, logic, numbers::GEN);
-    gen_by_lemmas(recorder, alloc, truth_lemma, forall_lemma, binder, premise)
+    let Some((name, ty)) = binder.dest_var() else {
+        return Err(Fault::NotVariable);
+    };
+    if !recorder.theory().known(binder) {
+        return Err(Fault::UnknownType);
+    }
+    let theorem = recorder.thm(premise);
+    if is_free_in_some(theorem.hyps(), name, ty) {
+        return Err(Fault::FreeInHypothesis);
+    }
+    recorder.theory_is_legal();
+    let function = Term::mk_abs(alloc, binder, theorem.concl())?;
+    let formula = universal(alloc, &function)?;
+    let answer = over_all(recorder, alloc, logic, binder, &function, premise)?;
+    let _answer = conclusion_of(recorder, &answer);
+    named_same(recorder, alloc, &formula, &answer)
 }

@@ -1,16 +1,18 @@
 // Instances of lemmas over a predicate `P` and an element `x`, or a formula `q`.
-ghost use Rattle.std.specs.Prelude.{◌≡◌, ◌∷◌, List, [], Some, IfOk, IfErr, codes};
+ghost use Rattle.std.specs.Prelude.{◌≡◌, ◌∷◌, List, [], true, Some, IfOk, IfErr};
 ghost use Rattle.hol_model.specs.declared.fault.Fault.TheVariants.{Memory};
 ghost use Rattle.hol_model.specs.Terms.HolType.{HolType, bool_type};
 ghost use Rattle.hol_model.specs.Logic.Logic.{predicate};
 ghost use Rattle.hol_model.specs.Terms.NamedTerm.{variable, type_of};
 ghost use Rattle.hol_model.specs.Terms.Nameless.{Nameless, image};
+ghost use Rattle.hol_model.specs.Terms.Name.{is_identifier};
 ghost use Rattle.hol_model.specs.Logic.Theory.{IsKnown, type_a};
 ghost use Rattle.hol_journal.specs.Journal.{IsMade};
 ghost use Rattle.hol_equal.specs.Formulas.{IsFormula};
 ghost use Rattle.hol_equal.specs.Sequents.{Shows, DerivesIf, Continues};
 ghost use Rattle.hol_quant.specs.PredicateLemmas.{AreKnown, at_predicate, lemma_fits, at_formula, formula_lemma_fits};
 
+use hol_bool::formula_pair;
 use hol_equal::by_lemma_known;
 use hol_journal::{Rec, Recorder};
 use hol_model::Fault;
@@ -28,23 +30,14 @@ fn type_pair(alloc: Global, element: &Term) -> Result<(Ty, Ty), Fault>
     Ok((new, old))
 }
 
-// The predicate, for the variable `P` of its type.
-fn predicate_pair(alloc: Global, function: &Term) -> Result<(Term, Term), Fault>
-    ensures ok { IfOk result (λ pair. (ty : HolType) → type_of function.now ≡ Some ty → pair ≡ (function.now, variable (codes "P") ty)) }
+// The term, for the variable of this name and of its type.
+fn variable_pair(alloc: Global, term: &Term, name: &str) -> Result<(Term, Term), Fault>
+    requires { is_identifier name.now ≡ true }
+    ensures ok { IfOk result (λ pair. (ty : HolType) → type_of term.now ≡ Some ty → pair ≡ (term.now, variable name.now ty)) }
     ensures err { IfErr result (λ fault. fault ≡ Memory) }
 {
-    let new = function.copy(alloc)?;
-    let old = Term::mk_var(alloc, "P", function.ty())?;
-    Ok((new, old))
-}
-
-// The element, for the variable `x` of its type.
-fn element_pair(alloc: Global, element: &Term) -> Result<(Term, Term), Fault>
-    ensures ok { IfOk result (λ pair. (ty : HolType) → type_of element.now ≡ Some ty → pair ≡ (element.now, variable (codes "x") ty)) }
-    ensures err { IfErr result (λ fault. fault ≡ Memory) }
-{
-    let new = element.copy(alloc)?;
-    let old = Term::mk_var(alloc, "x", element.ty())?;
+    let new = term.copy(alloc)?;
+    let old = Term::mk_var(alloc, name, term.ty())?;
     Ok((new, old))
 }
 
@@ -68,22 +61,11 @@ pub(crate) fn by_predicate_lemma(
         → DerivesIf (lemma_fits ty function.now element.now p q) result h (at_predicate ty function.now element.now q) }
 {
     let of_type = type_pair(alloc, element)?;
-    let of_predicate = predicate_pair(alloc, function)?;
-    let of_element = element_pair(alloc, element)?;
+    let of_predicate = variable_pair(alloc, function, "P")?;
+    let of_element = variable_pair(alloc, element, "x")?;
     let types = [of_type];
     let terms = [of_predicate, of_element];
     by_lemma_known(recorder, alloc, &types, &terms, lemma, premise)
-}
-
-// The formula, for the variable `q`.
-fn formula_pair(alloc: Global, formula: &Term) -> Result<(Term, Term), Fault>
-    ensures ok { IfOk result (λ pair. pair ≡ (formula.now, variable (codes "q") bool_type)) }
-    ensures err { IfErr result (λ fault. fault ≡ Memory) }
-{
-    let new = formula.copy(alloc)?;
-    let boolean = Ty::boolean(alloc)?;
-    let old = Term::mk_var(alloc, "q", &boolean)?;
-    Ok((new, old))
 }
 
 // From the lemma's hypothesis at a predicate for `P`, on the type of an element, and a formula for `q`, its conclusion
@@ -108,8 +90,8 @@ pub(crate) fn by_formula_lemma(
         → DerivesIf (formula_lemma_fits ty function.now formula.now p q) result h (at_formula ty function.now formula.now q) }
 {
     let of_type = type_pair(alloc, element)?;
-    let of_predicate = predicate_pair(alloc, function)?;
-    let of_formula = formula_pair(alloc, formula)?;
+    let of_predicate = variable_pair(alloc, function, "P")?;
+    let of_formula = formula_pair(alloc, formula, "q")?;
     let types = [of_type];
     let terms = [of_predicate, of_formula];
     by_lemma_known(recorder, alloc, &types, &terms, lemma, premise)

@@ -13,6 +13,7 @@ ghost use Rattle.hol_quant.specs.PredicateLemmas.{applied, over_predicate};
 
 use crate::instances::by_predicate_lemma;
 use crate::parts::quantified_parts;
+use hol_bool::pass_known;
 use hol_equal::{conclusion_of, converted_known, eq_mp_known};
 use hol_journal::{Rec, Recorder};
 use hol_model::Fault;
@@ -43,10 +44,7 @@ pub(crate) fn spec_by_lemma(
     if !term.ty().eq(parts.binder.ty()) {
         return Err(Fault::TypeMismatch);
     }
-    match recorder.theory().first_unknown(term) {
-        Some(fault) => return Err(fault),
-        None => {}
-    }
+    pass_known(recorder, term)?;
     let redex = by_predicate_lemma(recorder, alloc, lemma, parts.predicate, term, premise)?;
     let equation = converted_known(recorder, alloc, parts.predicate, parts.binder, term)?;
     eq_mp_known(recorder, alloc, &equation, &redex)

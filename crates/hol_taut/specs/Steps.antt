@@ -1,8 +1,7 @@
 -- What steps on theorems with allowed hypotheses answer.
-use Rattle.std.specs.Prelude.{◌≡◌, List, ◌∷◌, Bool, false, not, Option, Some, Result}
+use Rattle.std.specs.Prelude.{List, ◌∷◌, Bool, false, not, Option, Result}
 use Rattle.hol_model.specs.declared.fault.Fault.{Fault}
-use Rattle.hol_model.specs.Terms.HolType.{bool_type}
-use Rattle.hol_model.specs.Terms.NamedTerm.{NamedTerm, equation, type_of}
+use Rattle.hol_model.specs.Terms.NamedTerm.{NamedTerm}
 use Rattle.hol_model.specs.Terms.Nameless.{Nameless, image}
 use Rattle.hol_model.specs.Kernel.Theorem.{Theorem}
 use Rattle.hol_model.specs.Logic.Theory.{Theory}
@@ -10,7 +9,7 @@ use Rattle.hol_model.specs.Logic.Logic as nameless
 use Rattle.hol_model.specs.Logic.NamedLogic.{negation}
 use Rattle.hol_model.specs.Propositional.Connectives.{equation_of, fact}
 use Rattle.hol_journal.specs.Journal.{Recorded}
-use Rattle.hol_equal.specs.Room.{Room, FitsIf, MakesIf}
+use Rattle.hol_equal.specs.Room.{Room, FitsIf}
 use Rattle.hol_equal.specs.Sequents.{Shows, DerivesIf}
 use Rattle.hol_bool.specs.PreludeInstances.{at_p_q}
 use Rattle.hol_taut_laws.specs.declared.law.Law.{Law}
@@ -22,11 +21,6 @@ use Rattle.hol_taut.specs.Proved.{Proves, ProvesIf}
 use Rattle.hol_taut.specs.Refuted.{AreAllSmall}
 use Rattle.hol_taut.specs.Shown.{LeadsBy, Joins}
 use Rattle.hol_taut.specs.Ways.{IsSmallIf}
-
--- the equation of two formulas, where it fits
-abbrev pub MakesEquivalence : NamedTerm → NamedTerm → Result NamedTerm Fault → Type 0
-MakesEquivalence left right result =
-    (room : Room) → type_of left ≡ Some bool_type → type_of right ≡ Some bool_type → FitsIf room (image (equation left right)) → MakesIf room result (equation left right)
 
 -- from a law's hypothesis at these terms, its conclusion there
 abbrev pub LawDerives : Theory → Law → List (NamedTerm × NamedTerm) → Theorem → Result Recorded Fault → Type 0

@@ -10,8 +10,8 @@ ghost use Rattle.hol_model.specs.Propositional.Connectives.{fact};
 ghost use Rattle.hol_taut.specs.Proved.{Proves, ProvesIf};
 ghost use Rattle.hol_taut.specs.Steps.{FalsityDenies};
 
-use crate::formula_terms::false_formula;
 use crate::steps::{by_both, by_one};
+use hol_bool::falsity;
 use hol_equal::assume;
 use hol_journal::{Rec, Recorder};
 use hol_model::Fault;
@@ -27,7 +27,7 @@ fn from_falsity(recorder: &mut Recorder, alloc: Global, laws: &Laws, p: &Term) -
     ensures proves { (allowed : List Nameless) (room : Room) → FitsIf room (image p.now) → ProvesIf room result (nameless.false_term ∷ allowed) (image p.now) }
 {
     recorder.theory_is_legal();
-    let falsity = false_formula(alloc)?;
+    let falsity = falsity(alloc)?;
     let assumed = assume(recorder, alloc, &falsity)?;
     by_one(recorder, alloc, laws, Law::Contr, p, p, &assumed)
 }

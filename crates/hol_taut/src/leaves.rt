@@ -11,8 +11,8 @@ ghost use Rattle.hol_model.specs.Propositional.Connectives.{constant_fact};
 ghost use Rattle.hol_taut.specs.Proved.{ProvesIf};
 
 use crate::facts::{Facts, fact_of};
-use crate::formula_terms::false_formula;
 use crate::steps::by_both;
+use hol_bool::falsity;
 use hol_equal::{assume, conclusion_of, named};
 use hol_journal::{Rec, Recorder};
 use hol_model::Fault;
@@ -56,7 +56,7 @@ pub(crate) fn constantly(
         return named(recorder, alloc, conclusion, truth);
     }
     recorder.theory_is_legal();
-    let falsity = false_formula(alloc)?;
+    let falsity = falsity(alloc)?;
     let assumed = assume(recorder, alloc, &falsity)?;
     by_both(recorder, alloc, &assumed, &assumed)
 }

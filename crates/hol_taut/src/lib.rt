@@ -7,7 +7,6 @@
 mod chain_proofs;
 mod denial;
 mod facts;
-mod formula_terms;
 mod general;
 mod known;
 mod leaves;

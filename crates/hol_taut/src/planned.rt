@@ -7,8 +7,8 @@ ghost use Rattle.hol_prelude_derivations.specs.Derivations.{AreMade};
 ghost use Rattle.hol_equal.specs.Sequents.{Continues};
 ghost use Rattle.hol_taut_laws.specs.HasLaws.{HasLaws};
 
-use crate::formula_terms::{equivalence, false_formula, for_p_q};
 use crate::leaves::constantly;
+use hol_bool::{equivalence, falsity, for_p_q};
 use hol_equal::steps::deduct_antisym;
 use hol_equal::{assume, eq_mp, trans};
 use hol_journal::{Rec, Recorder};
@@ -55,7 +55,7 @@ fn formula_of(alloc: Global, plan: &Plan, formula: Formula) -> Result<Term, Faul
     match formula {
         Formula::Part(number) => part_of(plan, number)?.copy(alloc),
         Formula::Denied(number) => {
-            let falsity = false_formula(alloc)?;
+            let falsity = falsity(alloc)?;
             equivalence(alloc, part_of(plan, number)?, &falsity)
         }
     }

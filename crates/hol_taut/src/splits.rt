@@ -14,10 +14,10 @@ ghost use Rattle.hol_taut.specs.Ways.{IsSmallIf};
 
 use crate::denial::denied_by;
 use crate::facts::Facts;
-use crate::formula_terms::{equivalence, false_formula, pass_formula};
 use crate::planned::by_planned_steps;
 use crate::refuted::refuted;
 use crate::steps::by_one;
+use hol_bool::{equivalence, falsity, pass_formula};
 use hol_equal::assume;
 use hol_journal::{Rec, Recorder};
 use hol_model::Fault;
@@ -73,7 +73,7 @@ fn by_own_splits(
     pass_formula(recorder, term)?;
     let atoms = atoms_of_tautology(alloc, term)?;
     recorder.theory_is_legal();
-    let falsity = false_formula(alloc)?;
+    let falsity = falsity(alloc)?;
     let denial = equivalence(alloc, term, &falsity)?;
     split(recorder, alloc, laws, term, &denial, &atoms)
 }

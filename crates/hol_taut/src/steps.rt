@@ -11,7 +11,7 @@ ghost use Rattle.hol_model.specs.Propositional.Connectives.{equation_of};
 ghost use Rattle.hol_taut.specs.Proved.{Proves, ProvesIf};
 ghost use Rattle.hol_taut.specs.Steps.{LawDerives, LawProves, EquationProves, ChainProves, BothProve};
 
-use crate::formula_terms::for_p_q;
+use hol_bool::for_p_q;
 use hol_equal::steps::deduct_antisym;
 use hol_equal::{by_lemma, eq_mp, trans};
 use hol_journal::{Rec, Recorder};

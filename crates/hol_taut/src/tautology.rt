@@ -16,9 +16,9 @@ ghost use Rattle.hol_model.specs.Propositional.Tautologies.{tautology_outcome};
 ghost use Rattle.hol_taut.specs.Ways.{IsSmallIf};
 
 use crate::chain_proofs::judged;
-use crate::formula_terms::{equivalence, false_formula, pass_formula};
 use crate::search::searched;
 use crate::splits::split;
+use hol_bool::{equivalence, falsity, pass_formula};
 use hol_equal::named;
 use hol_journal::{Rec, Recorder};
 use hol_model::Fault;
@@ -71,7 +71,7 @@ pub fn taut(recorder: &mut Recorder, alloc: Global, laws: &Laws, term: &Term) ->
     pass_formula(recorder, term)?;
     let atoms = atoms_of_tautology(alloc, term)?;
     recorder.theory_is_legal();
-    let falsity = false_formula(alloc)?;
+    let falsity = falsity(alloc)?;
     let denial = equivalence(alloc, term, &falsity)?;
     let made = proved(recorder, alloc, laws, term, &denial, &atoms)?;
     named(recorder, alloc, term, &made)

@@ -6,15 +6,14 @@ use Rattle.hol_model.specs.Terms.Nameless.{Nameless, image}
 use Rattle.hol_model.specs.Logic.Theory.{Theory, IsKnown}
 use Rattle.hol_model.specs.Logic.Derivable.{nameless_equation}
 use Rattle.hol_model.specs.Derived.DerivedRules.{images, is_roomy}
-use Rattle.hol_journal.proofs.GrowthLemmas.{journals-grow}
 use Rattle.hol_kernel.proofs.LimitLemmas.{applied}
 use Rattle.hol_equal.specs.Room.{FitsIf}
 use Rattle.hol_equal.specs.Sequents.{Shows, DerivesIf}
 use Rattle.hol_quant.proofs.GenLemmas.{truth}
-use Rattle.hol_quant.proofs.PreludeParts.{truth-shows, back-shows}
 use Rattle.hol_quant.proofs.ExistsLemmas.{roomy-fits, small, redex, redex_passes, redex_known, redex_image, redex-fits, redex-past, conversion-past, instance-past, truth-past, conversion-at}
 use Rattle.hol_equal.proofs.StepLemmas.{passed_on}
 use Rattle.hol_bool.proofs.Passing.{unchanged}
+use Rattle.hol_prelude.proofs.StoredLemmas.{logic-stays}
 use Rattle.hol_quant.proofs.existence.expanded.Goals as goal
 
 pub returns-in_err-redex-clause-derives : goal.returns-in_err-redex-clause-derives
@@ -43,17 +42,6 @@ returns-in_err-conversion-clause-derives c formula at =
     (c.in_err-conversion.ensures.derives at.parts.name at.parts.ty bool_type body at.parts.function_is at.parts.binder_is at.parts.body_typed
     at.witness_typed (redex_passes theory formula function binder body witness instance at)))
 
-pub equal_to_truth-requires-clause-lemma : goal.equal_to_truth-requires-clause-lemma
-equal_to_truth-requires-clause-lemma c =
-    journals-grow.stays c.args.recorder.now c.converted.new.recorder c.theorem_of-truth_lemma.result.now c.in_ok-conversion.ensures.continues.grown c.theorem_of-truth_lemma.ensures.made
-
-pub equal_to_truth-requires-clause-shows : goal.equal_to_truth-requires-clause-shows
-equal_to_truth-requires-clause-shows c = truth-shows c.theorem_of-truth_lemma.result.now.theorem c.theorem_of-truth_lemma.ensures.theorem
-
-pub equal_to_truth-requires-clause-premise : goal.equal_to_truth-requires-clause-premise
-equal_to_truth-requires-clause-premise c =
-    journals-grow.stays c.args.recorder.now c.converted.new.recorder c.args.premise.now c.in_ok-conversion.ensures.continues.grown c.requires.premise
-
 pub returns-in_err-equal-clause-derives : goal.returns-in_err-equal-clause-derives
 returns-in_err-equal-clause-derives c formula at =
     rw (passed_on c.from_residual-in_err-equal.result c.in_err-equal.field-0.0 c.from_residual-in_err-equal.ensures.1) (
@@ -65,10 +53,6 @@ returns-in_err-equal-clause-derives c formula at =
     let premise = c.args.premise.now.theorem in
     let instance = image premise.conclusion in
     instance-past theory formula function binder body witness instance at c.in_err-equal.field-0.0 (c.in_err-equal.ensures.derives (is_roomy instance) (roomy-fits instance)))
-
-pub trans-requires-clause-first : goal.trans-requires-clause-first
-trans-requires-clause-first c =
-    journals-grow.stays c.converted.new.recorder c.equal_to_truth.new.recorder c.in_ok-conversion.conversion c.in_ok-equal.ensures.continues.grown c.in_ok-conversion.ensures.continues.held.made
 
 pub returns-in_err-redex_equal-clause-derives : goal.returns-in_err-redex_equal-clause-derives
 returns-in_err-redex_equal-clause-derives c formula at =
@@ -88,15 +72,12 @@ returns-in_err-redex_equal-clause-derives c formula at =
     (redex theory formula function binder body witness instance at) instance truth conversion_shown
     (c.in_ok-equal.ensures.derives (is_roomy instance) (roomy-fits instance))))
 
-pub from_truth-requires-clause-lemma : goal.from_truth-requires-clause-lemma
-from_truth-requires-clause-lemma c =
-    let lemma = c.theorem_of-back_lemma.result.now in
-    let one = journals-grow.stays c.args.recorder.now c.converted.new.recorder lemma c.in_ok-conversion.ensures.continues.grown c.theorem_of-back_lemma.ensures.made in
-    let two = journals-grow.stays c.converted.new.recorder c.equal_to_truth.new.recorder lemma c.in_ok-equal.ensures.continues.grown one in
-    journals-grow.stays c.equal_to_truth.new.recorder c.trans.new.recorder lemma c.in_ok-redex_equal.ensures.continues.grown two
-
-pub from_truth-requires-clause-shows : goal.from_truth-requires-clause-shows
-from_truth-requires-clause-shows c = back-shows c.theorem_of-back_lemma.result.now.theorem c.theorem_of-back_lemma.ensures.theorem
+pub from_truth-requires-clause-logic : goal.from_truth-requires-clause-logic
+from_truth-requires-clause-logic c =
+    let logic = c.args.logic.now in
+    let one = logic-stays c.args.recorder.now c.converted.new.recorder logic c.in_ok-conversion.ensures.continues.grown c.requires.logic in
+    let two = logic-stays c.converted.new.recorder c.equal_to_truth.new.recorder logic c.in_ok-equal.ensures.continues.grown one in
+    logic-stays c.equal_to_truth.new.recorder c.trans.new.recorder logic c.in_ok-redex_equal.ensures.continues.grown two
 
 pub returns-clause-derives : goal.returns-clause-derives
 returns-clause-derives c formula at =

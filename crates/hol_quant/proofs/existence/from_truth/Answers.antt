@@ -13,6 +13,7 @@ use Rattle.hol_equal.specs.Sequents.{Shows, DerivesIf, instance_of}
 use Rattle.hol_equal.proofs.CutLemmas.{derives-where}
 use Rattle.hol_quant.proofs.GenLemmas.{truth, proposition, formula-passes}
 use Rattle.hol_quant.proofs.ExistsLemmas.{back-fits}
+use Rattle.hol_quant.proofs.PreludeParts.{back-shows}
 use Rattle.hol_quant.proofs.existence.from_truth.Goals as goal
 
 pub returns-clause-derives : goal.returns-clause-derives
@@ -34,7 +35,7 @@ returns-clause-derives c room h known fits shown =
     DerivesIf (list_all nameless_within_limits
     (instantiate_all [] proposition ∷ instantiate_all [] equal ∷ instance_of [] l proposition ∷ instance_of [] l equal ∷ nameless_equation
     bool_type (instance_of [] l equal) (instance_of [] l proposition) ∷ [])) c.by_lemma.result h (instance_of [] l proposition)) theta_is
-    (c.by_lemma.ensures.derives refl passes h equal proposition c.requires.shows shows))
+    (c.by_lemma.ensures.derives refl passes h equal proposition (back-shows c.theorem_of-lemma.result.now.theorem c.theorem_of-lemma.ensures.theorem) shows))
 
 pub returns-in_err-of_formula-clause-continues : goal.returns-in_err-of_formula-clause-continues
 returns-in_err-of_formula-clause-continues c = rw (err_from_is_err_and c.from_residual.result c.from_residual.ensures.1).1 (search rules)

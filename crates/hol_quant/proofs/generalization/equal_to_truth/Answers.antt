@@ -14,6 +14,7 @@ use Rattle.hol_journal.proofs.Showing.{formula_of}
 use Rattle.hol_equal.specs.Sequents.{Shows, DerivesIf, instance_of}
 use Rattle.hol_equal.proofs.CutLemmas.{conclusion-known, shows-itself, derives-where}
 use Rattle.hol_quant.proofs.GenLemmas.{truth, proposition, formula-passes, truth-fits}
+use Rattle.hol_quant.proofs.PreludeParts.{truth-shows}
 use Rattle.hol_quant.proofs.generalization.equal_to_truth.Goals as goal
 
 pub returns-clause-derives : goal.returns-clause-derives
@@ -39,7 +40,7 @@ returns-clause-derives c room fits =
     DerivesIf (list_all nameless_within_limits
     (instantiate_all [] d ∷ instantiate_all [] proposition ∷ instance_of [] l d ∷ instance_of [] l proposition ∷ nameless_equation bool_type
     (instance_of [] l proposition) (instance_of [] l d) ∷ [])) c.by_lemma_known.result (images premise) (instance_of [] l d)) theta_is
-    (c.by_lemma_known.ensures.derives refl passes (images premise) proposition d c.requires.shows shows))
+    (c.by_lemma_known.ensures.derives refl passes (images premise) proposition d (truth-shows c.theorem_of-lemma.result.now.theorem c.theorem_of-lemma.ensures.theorem) shows))
 
 pub by_lemma_known-requires-clause-known : goal.by_lemma_known-requires-clause-known
 by_lemma_known-requires-clause-known c =

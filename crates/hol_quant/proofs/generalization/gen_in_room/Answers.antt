@@ -5,15 +5,8 @@ use Rattle.hol_model.specs.Terms.NamedTerm.{NamedTerm}
 use Rattle.hol_model.specs.Terms.Nameless.{image}
 use Rattle.hol_model.specs.Logic.Theory.{IsKnown}
 use Rattle.hol_model.specs.Kernel.Rules.{abstraction_outcome}
-use Rattle.hol_quant.proofs.PreludeParts.{truth-shows, always-shows}
 use Rattle.hol_quant.proofs.ForAllLemmas.{variable-known, function-known, abstraction-past, abstraction-is}
 use Rattle.hol_quant.proofs.generalization.gen_in_room.Goals as goal
-
-pub over_all-requires-clause-truth_shows : goal.over_all-requires-clause-truth_shows
-over_all-requires-clause-truth_shows c = truth-shows c.theorem_of-truth_lemma.result.now.theorem c.theorem_of-truth_lemma.ensures.theorem
-
-pub over_all-requires-clause-forall_shows : goal.over_all-requires-clause-forall_shows
-over_all-requires-clause-forall_shows c = always-shows c.theorem_of-forall_lemma.result.now.theorem c.theorem_of-forall_lemma.ensures.theorem
 
 pub over_all-requires-clause-known : goal.over_all-requires-clause-known
 over_all-requires-clause-known c =

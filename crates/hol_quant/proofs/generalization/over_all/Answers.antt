@@ -14,6 +14,7 @@ use Rattle.hol_quant.specs.PredicateLemmas.{AreKnown, is_always, over_predicate,
 use Rattle.hol_quant.specs.Universals.{for_all}
 use Rattle.hol_quant.proofs.GenLemmas.{truth}
 use Rattle.hol_quant.proofs.ForAllLemmas.{binder-known, function-known, always, always-at, formula-at, body-fits, always-within, lemma-fits}
+use Rattle.hol_quant.proofs.PreludeParts.{always-shows}
 use Rattle.hol_quant.proofs.generalization.over_all.Goals as goal
 
 pub returns-in_err-equal-clause-derives : goal.returns-in_err-equal-clause-derives
@@ -57,7 +58,7 @@ returns-clause-derives c name ty room may function_is fits =
     let binder_there = subst (λ (th : Theory). IsKnown th (image binder) ty) (sym later) (binder-known theory premise binder name ty may) in
     let premise_shows = subst (λ (f : NamedTerm). Shows c.in_ok-always.always.theorem (images premise) (at_predicate ty f binder is_always)) (sym function_is)
     (subst (λ (t : Nameless). Shows c.in_ok-always.always.theorem (images premise) t) (sym (always-at name ty p binder)) always_shows) in
-    let answer = c.by_predicate_lemma.ensures.derives ty function_there binder_there (images premise) is_always (over_predicate forall_name) c.requires.forall_shows premise_shows in
+    let answer = c.by_predicate_lemma.ensures.derives ty function_there binder_there (images premise) is_always (over_predicate forall_name) (always-shows c.theorem_of-lemma.result.now.theorem c.theorem_of-lemma.ensures.theorem) premise_shows in
     let at_abstraction = subst (λ (f : NamedTerm).
     DerivesIf (lemma_fits ty f binder is_always (over_predicate forall_name)) c.by_predicate_lemma.result (images premise)
     (at_predicate ty f binder (over_predicate forall_name))) function_is answer in

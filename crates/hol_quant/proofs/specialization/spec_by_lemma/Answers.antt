@@ -17,12 +17,14 @@ use Rattle.hol_equal.proofs.StepLemmas.{no_unknown, eq_mp-fits}
 use Rattle.hol_equal.proofs.Sizes.{past-room}
 use Rattle.hol_equal.proofs.CutLemmas.{shows-itself, given-derives}
 use Rattle.hol_quant.specs.PredicateLemmas.{applied, over_predicate, lemma_fits}
-use Rattle.hol_quant.proofs.SpecLemmas.{spec-start, small, specialized_body, spec-answers, spec-unknown, function_image, premise-at, redex-at, spec-lemma-within, spec-conversion-within}
+use Rattle.hol_quant.proofs.SpecLemmas.{spec-start, small, specialized_body, spec-answers, spec-refused, function_image, premise-at, redex-at, spec-lemma-within, spec-conversion-within}
 use Rattle.hol_equal.proofs.StepLemmas.{passed_on}
+use Rattle.hol_bool.proofs.Passing.{unchanged}
 use Rattle.hol_quant.proofs.specialization.spec_by_lemma.Goals as goal
 
-pub returns-in-Some-first_unknown-clause-outcome : goal.returns-in-Some-first_unknown-clause-outcome
-returns-in-Some-first_unknown-clause-outcome c =
+pub returns-in_err-pass_known-clause-outcome : goal.returns-in_err-pass_known-clause-outcome
+returns-in_err-pass_known-clause-outcome c =
+    rw (passed_on c.from_residual.result c.in_err-pass_known.field-0.0 c.from_residual.ensures.1) (
     let journal = c.args.recorder.now in
     let theory = journal.theory in
     let term = c.args.term.now in
@@ -35,11 +37,14 @@ returns-in-Some-first_unknown-clause-outcome c =
     c.in-Some.parts.quantifier.now function binder body c.concl-formula.ensures.value c.in-Some.ensures.whole c.in-Some.ensures.named c.in-Some.ensures.abstraction
     c.ty.result.now c.ty-2.result.now c.ty.ensures c.ty-2.ensures (c.eq.ensures.same.0 c.if-not-eq.false) in
     let at = start.at in
-    spec-unknown theory term premise function binder body at start.typed c.in-Some-first_unknown.fault (sym (rw c.theory.ensures at c.in-Some-first_unknown.ensures))
+    spec-refused theory term premise function binder body at start.typed c.in_err-pass_known.field-0.0 c.in_err-pass_known.ensures.err)
+
+pub returns-in_err-pass_known-clause-continues : goal.returns-in_err-pass_known-clause-continues
+returns-in_err-pass_known-clause-continues c = unchanged c.args.recorder.now c.from_residual.result c.from_residual.ensures.0
 
 pub returns-in_err-redex-clause-outcome : goal.returns-in_err-redex-clause-outcome
 returns-in_err-redex-clause-outcome c =
-    rw (passed_on c.from_residual.result c.in_err-redex.field-0.0 c.from_residual.ensures.1) (
+    rw (passed_on c.from_residual-in_err-redex.result c.in_err-redex.field-0.0 c.from_residual-in_err-redex.ensures.1) (
     let journal = c.args.recorder.now in
     let theory = journal.theory in
     let term = c.args.term.now in
@@ -52,7 +57,7 @@ returns-in_err-redex-clause-outcome c =
     c.in-Some.parts.quantifier.now function binder body c.concl-formula.ensures.value c.in-Some.ensures.whole c.in-Some.ensures.named c.in-Some.ensures.abstraction
     c.ty.result.now c.ty-2.result.now c.ty.ensures c.ty-2.ensures (c.eq.ensures.same.0 c.if-not-eq.false) in
     let at = start.at in
-    let none = sym (rw c.theory.ensures at c.in-None.ensures) in
+    let none = c.in_ok-pass_known.ensures.ok in
     let fits = list_all is_roomy (small theory term premise function binder body at start.typed) in
     let term_known = known_term theory term at.ty none start.typed in
     let function_known = subst (λ (t : Nameless). IsKnown theory t (predicate at.ty)) (sym (function_image theory term premise function binder body at start.typed)) at.function_known in
@@ -77,7 +82,7 @@ by_predicate_lemma-requires-clause-known c =
     c.in-Some.parts.quantifier.now function binder body c.concl-formula.ensures.value c.in-Some.ensures.whole c.in-Some.ensures.named c.in-Some.ensures.abstraction
     c.ty.result.now c.ty-2.result.now c.ty.ensures c.ty-2.ensures (c.eq.ensures.same.0 c.if-not-eq.false) in
     let at = start.at in
-    let none = sym (rw c.theory.ensures at c.in-None.ensures) in
+    let none = c.in_ok-pass_known.ensures.ok in
     record {
       ty = at.ty;
       function_known = subst (λ (t : Nameless). IsKnown theory t (predicate at.ty)) (sym (function_image theory term premise function binder body at start.typed)) at.function_known;
@@ -98,7 +103,7 @@ converted_known-requires c =
     c.in-Some.parts.quantifier.now function binder body c.concl-formula.ensures.value c.in-Some.ensures.whole c.in-Some.ensures.named c.in-Some.ensures.abstraction
     c.ty.result.now c.ty-2.result.now c.ty.ensures c.ty-2.ensures (c.eq.ensures.same.0 c.if-not-eq.false) in
     let at = start.at in
-    let none = sym (rw c.theory.ensures at c.in-None.ensures) in
+    let none = c.in_ok-pass_known.ensures.ok in
     let term_known = known_term theory term at.ty none start.typed in
     let later : c.by_predicate_lemma.new.recorder.theory ≡ theory = c.in_ok-redex.ensures.continues.theory in
     let redex_none = subst (λ (th : Theory). first_unknown th (combination (abstraction at.name at.ty body) term) ≡ None) (sym later)
@@ -132,7 +137,7 @@ returns-in_err-equation-clause-outcome c =
     c.in-Some.parts.quantifier.now function binder body c.concl-formula.ensures.value c.in-Some.ensures.whole c.in-Some.ensures.named c.in-Some.ensures.abstraction
     c.ty.result.now c.ty-2.result.now c.ty.ensures c.ty-2.ensures (c.eq.ensures.same.0 c.if-not-eq.false) in
     let at = start.at in
-    let none = sym (rw c.theory.ensures at c.in-None.ensures) in
+    let none = c.in_ok-pass_known.ensures.ok in
     let fits = list_all is_roomy (small theory term premise function binder body at start.typed) in
     let term_known = known_term theory term at.ty none start.typed in
     let function_known = subst (λ (t : Nameless). IsKnown theory t (predicate at.ty)) (sym (function_image theory term premise function binder body at start.typed)) at.function_known in
@@ -168,7 +173,7 @@ eq_mp_known-requires-clause-fits c =
     c.in-Some.parts.quantifier.now function binder body c.concl-formula.ensures.value c.in-Some.ensures.whole c.in-Some.ensures.named c.in-Some.ensures.abstraction
     c.ty.result.now c.ty-2.result.now c.ty.ensures c.ty-2.ensures (c.eq.ensures.same.0 c.if-not-eq.false) in
     let at = start.at in
-    let none = sym (rw c.theory.ensures at c.in-None.ensures) in
+    let none = c.in_ok-pass_known.ensures.ok in
     let fits = list_all is_roomy (small theory term premise function binder body at start.typed) in
     let term_known = known_term theory term at.ty none start.typed in
     let function_known = subst (λ (t : Nameless). IsKnown theory t (predicate at.ty)) (sym (function_image theory term premise function binder body at start.typed)) at.function_known in
@@ -198,7 +203,7 @@ returns-clause-outcome c =
     c.in-Some.parts.quantifier.now function binder body c.concl-formula.ensures.value c.in-Some.ensures.whole c.in-Some.ensures.named c.in-Some.ensures.abstraction
     c.ty.result.now c.ty-2.result.now c.ty.ensures c.ty-2.ensures (c.eq.ensures.same.0 c.if-not-eq.false) in
     let at = start.at in
-    let none = sym (rw c.theory.ensures at c.in-None.ensures) in
+    let none = c.in_ok-pass_known.ensures.ok in
     let fits = list_all is_roomy (small theory term premise function binder body at start.typed) in
     let term_known = known_term theory term at.ty none start.typed in
     let function_known = subst (λ (t : Nameless). IsKnown theory t (predicate at.ty)) (sym (function_image theory term premise function binder body at start.typed)) at.function_known in

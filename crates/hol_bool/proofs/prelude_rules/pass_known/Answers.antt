@@ -1,5 +1,5 @@
 use Rattle.std.proofs.Common.{inr, sym}
-use Rattle.hol_quant.proofs.existence.pass_known.Goals as goal
+use Rattle.hol_bool.proofs.prelude_rules.pass_known.Goals as goal
 
 pub returns-in-Some-clause-err : goal.returns-in-Some-clause-err
 returns-in-Some-clause-err c = inr (sym (rw c.theory.ensures at c.in-Some.ensures))
