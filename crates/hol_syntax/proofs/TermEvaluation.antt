@@ -152,3 +152,19 @@ entered (Ok ty) name made result now work e terms enters = go (is_identifier nam
         let same : made ≡ variable name ty = cc in
         here result (enters ty same)
     go false k = absurd (let bad : ◌≡◌ {A = Result NamedTerm Fault} (Err BadName) (Ok made) = k in cc)
+
+-- a binder whose variable is not made
+pub unentered : (meant : Result HolType Fault) (name : List ℕ) (fault : Fault) (now : Evaluator) (work : Workspace)
+    → Answers {A = NamedTerm} (Err fault) (meant >>= named_variable name) → Arrives (Err fault) now ((meant >>= named_binding name) >>= enter work)
+unentered (Err refusal) name fault now work h = ⊎_elim (λ m. inl m) (λ e. inr (
+    let whole : ◌≡◌ {A = Result NamedTerm Fault} (Err refusal) (Err fault) = e in
+    let same : refusal ≡ fault = cc in
+    ap (λ y. Err y) same)) h
+unentered (Ok ty) name fault now work h = ⊎_elim (λ m. inl m) (λ e. inr (go (is_identifier name) e)) h
+  where
+    go : (b : Bool) → (if b then Ok (variable name ty) else Err BadName) ≡ Err fault → ((if b then Ok (name, ty) else Err BadName) >>= enter work) ≡ Err fault
+    go true k = absurd (let bad : ◌≡◌ {A = Result NamedTerm Fault} (Ok (variable name ty)) (Err fault) = k in cc)
+    go false k =
+        let whole : ◌≡◌ {A = Result NamedTerm Fault} (Err BadName) (Err fault) = k in
+        let same : BadName ≡ fault = cc in
+        ap (λ y. Err y) same

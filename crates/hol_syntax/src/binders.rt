@@ -55,10 +55,10 @@ fn reset_name(
     ensures err { IfErr result (λ fault. fault ≡ Memory) }
 {
     match hidden {
-        Some(variable) => match set_name(alloc, innermost, name, variable) {
-            Ok(_) => Ok(()),
-            Err(fault) => Err(fault),
-        },
+        Some(variable) => {
+            set_name(alloc, innermost, name, variable)?;
+            Ok(())
+        }
         None => {
             innermost.remove(name);
             Ok(())
@@ -108,10 +108,8 @@ impl Binders {
             return Err(Fault::NotVariable);
         };
         let innermost = variable.copy(alloc)?;
-        match set_name(alloc, &mut self.innermost, name, innermost) {
-            Ok(hidden) => push_opened(&mut self.opened, Opened { variable, hidden }),
-            Err(fault) => Err(fault),
-        }
+        let hidden = set_name(alloc, &mut self.innermost, name, innermost)?;
+        push_opened(&mut self.opened, Opened { variable, hidden })
     }
 
     /// Closes the innermost binder, if one is open.
@@ -124,9 +122,7 @@ impl Binders {
         let Some((name, _)) = variable.dest_var() else {
             return Err(Fault::NotVariable);
         };
-        match reset_name(alloc, &mut self.innermost, name, hidden) {
-            Ok(()) => Ok(Some(variable)),
-            Err(fault) => Err(fault),
-        }
+        reset_name(alloc, &mut self.innermost, name, hidden)?;
+        Ok(Some(variable))
     }
 }

@@ -54,10 +54,8 @@ impl Evaluator {
         ensures { (work : Workspace) (wanted : Result NamedTerm Fault) → IsHeld self.old work → Answers made wanted
             → Arrives result self.new (pushed work wanted) }
     {
-        match made {
-            Ok(term) => push_term(&mut self.terms, term),
-            Err(fault) => Err(fault),
-        }
+        let term = made?;
+        push_term(&mut self.terms, term)
     }
 
     // Puts a variable or a constant on those that wait.
@@ -65,13 +63,9 @@ impl Evaluator {
         ensures { (work : Workspace) (wanted : Result NamedTerm Fault) → IsHeld self.old work → Answers made wanted
             → Arrives result self.new (pushed work wanted) }
     {
-        match made {
-            Ok(leaf) => match self.leaves.shared(alloc, leaf) {
-                Ok(shared) => push_term(&mut self.terms, shared),
-                Err(fault) => Err(fault),
-            },
-            Err(fault) => Err(fault),
-        }
+        let leaf = made?;
+        let shared = self.leaves.shared(alloc, leaf)?;
+        push_term(&mut self.terms, shared)
     }
 
     fn apply(&mut self, alloc: Global) -> Result<(), Fault>
@@ -124,10 +118,8 @@ impl Evaluator {
         ensures { (tree : TypeTree) (work : Workspace) → steps_of types.now ≡ type_steps tree → IsHeld self.old work
             → Arrives result self.new (model.take_step (scope_of scope.now) (EnterBinder name.now tree) work) }
     {
-        match typed_variable(alloc, scope, name, types) {
-            Ok(variable) => self.binders.enter(alloc, variable),
-            Err(fault) => Err(fault),
-        }
+        let variable = typed_variable(alloc, scope, name, types)?;
+        self.binders.enter(alloc, variable)
     }
 
     // Closes the innermost binder.

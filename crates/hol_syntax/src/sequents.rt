@@ -127,16 +127,8 @@ pub fn read_sequent(alloc: Global, scope: &Scope, text: &[u8]) -> Result<(Vec<Te
     ensures found { IfOk result (λ sequent. ReadsSequent (scope_of scope.now) text.now (sequent.0.items, sequent.1)) }
     ensures refused { IfErr result (λ fault. RefusesSequent (scope_of scope.now) text.now fault) }
 {
-    let tokens = match tokens_in(alloc, text) {
-        Ok(tokens) => tokens,
-        Err(ReadError::Memory) => return Err(Fault::Memory),
-        Err(ReadError::Syntax) => return Err(Fault::Syntax),
-    };
-    let (parsed, last) = match parse_sequent(alloc, &tokens) {
-        Ok(parsed) => parsed,
-        Err(ReadError::Memory) => return Err(Fault::Memory),
-        Err(ReadError::Syntax) => return Err(Fault::Syntax),
-    };
+    let tokens = tokens_in(alloc, text)?;
+    let (parsed, last) = parse_sequent(alloc, &tokens)?;
     let hypotheses = formulas_of_steps(alloc, scope, &parsed)?;
     let conclusion = formula_of_steps(alloc, scope, &last)?;
     Ok((hypotheses, conclusion))

@@ -6,7 +6,7 @@ ghost use Rattle.hol_syntax.specs.Scope.{scope_of};
 use crate::evaluate::term_of_steps;
 use crate::scope::Scope;
 use hol_model::Fault;
-use hol_syntax_grammar::{ReadError, parse_term, tokens_in};
+use hol_syntax_grammar::{parse_term, tokens_in};
 use hol_terms::Term;
 use std::alloc::Global;
 
@@ -15,16 +15,8 @@ pub fn read_term(alloc: Global, scope: &Scope, text: &[u8]) -> Result<Term, Faul
     ensures found { IfOk result (λ term. ReadsTerm (scope_of scope.now) text.now term) }
     ensures refused { IfErr result (λ fault. RefusesTerm (scope_of scope.now) text.now fault) }
 {
-    let tokens = match tokens_in(alloc, text) {
-        Ok(tokens) => tokens,
-        Err(ReadError::Memory) => return Err(Fault::Memory),
-        Err(ReadError::Syntax) => return Err(Fault::Syntax),
-    };
-    let steps = match parse_term(alloc, &tokens) {
-        Ok(steps) => steps,
-        Err(ReadError::Memory) => return Err(Fault::Memory),
-        Err(ReadError::Syntax) => return Err(Fault::Syntax),
-    };
+    let tokens = tokens_in(alloc, text)?;
+    let steps = parse_term(alloc, &tokens)?;
     term_of_steps(alloc, scope, &steps)
 }
 

@@ -1,5 +1,6 @@
 pub mod Grammar
 pub mod Classes
+pub mod Faults
 pub mod Lexer
 pub mod Pieces
 pub mod PieceStates

@@ -8,7 +8,7 @@ ghost use Rattle.hol_syntax_grammar.specs.TypeStates.{IsState, Takes, IsOpened, 
 ghost use Rattle.hol_syntax_grammar.specs.declared.type_reader.ReadError.TheVariants.{Memory};
 
 use crate::token::Token;
-use hol_model::Symbol;
+use hol_model::{Fault, Symbol};
 use std::alloc::{AllocError, AllocFailed, Global};
 
 /// Why a text is not read.
@@ -31,6 +31,19 @@ impl<T: Drop> From<AllocFailed<T>> for ReadError {
 
     fn from(_: AllocFailed<T>) -> ReadError {
         ReadError::Memory
+    }
+}
+
+impl From<ReadError> for Fault {
+    ghost use Rattle.hol_syntax_grammar.specs.Faults.{fault_of};
+
+    ghost from_gives = { λ error fault. fault ≡ fault_of error };
+
+    fn from(error: ReadError) -> Fault {
+        match error {
+            ReadError::Memory => Fault::Memory,
+            ReadError::Syntax => Fault::Syntax,
+        }
     }
 }
 

@@ -146,6 +146,11 @@ pub goes-sooner : (result : Result Reading ReadError) (reader : Reader) (tokens 
 goes-sooner (Ok reading) reader tokens fewer turns within goes = (goes.0, omega (arith, goes.1, within))
 goes-sooner (Err error) reader tokens fewer turns within goes = goes
 
+-- an expression that is not made wants memory
+pub unmade : (error : ReadError) (meaning : Meaning) (tokens : List TokenHere) → Means (Err error) meaning → ReadsTactic (Err error) tokens
+unmade Memory meaning tokens means = tt
+unmade Syntax meaning tokens means = absurd means
+
 pub waits : (result : Result Reading ReadError) (old new : Reader) (place : Open) (next turns : ℕ) (tokens : List TokenHere) → Waits result old new place next
     → AreOpen (place ∷ opens_of old) old.room (tokens_of tokens) (behind next tokens) → 8 * (length tokens - next) + 4 * vec_len old.opens + 5 < turns → Goes result new tokens turns
 waits (Ok reading) old new place next turns tokens waiting opened fewer = subst (λ (r : Reading). Goes (Ok r) new tokens turns) (sym waiting.0) (

@@ -80,14 +80,8 @@ fn read_leaf(
         Single::All => Ok((Conv::All, at + 1)),
         Single::No => Ok((Conv::No, at + 1)),
         Single::Beta => Ok((Conv::Beta, at + 1)),
-        Single::Rewr => match read_name(alloc, tokens, at + 1) {
-            Ok(name) => Ok((Conv::Rewr(name), at + 2)),
-            Err(error) => Err(error),
-        },
-        Single::Host => match read_name(alloc, tokens, at + 1) {
-            Ok(name) => Ok((Conv::Host(name), at + 2)),
-            Err(error) => Err(error),
-        },
+        Single::Rewr => Ok((Conv::Rewr(read_name(alloc, tokens, at + 1)?), at + 2)),
+        Single::Host => Ok((Conv::Host(read_name(alloc, tokens, at + 1)?), at + 2)),
     }
 }
 
@@ -123,10 +117,8 @@ fn begin_prefixed(
     ensures { (start : ℕ) → IsWanted (reverse places.old.items) at start limit tokens.now
         → Leads result at (length (reverse places.old.items)) (reverse places.new.items) start limit tokens.now }
 {
-    match enter(places, Open::Prefixed(prefix), limit) {
-        Ok(()) => Ok(Step::Begin(at + 1)),
-        Err(error) => Err(error),
-    }
+    enter(places, Open::Prefixed(prefix), limit)?;
+    Ok(Step::Begin(at + 1))
 }
 
 // Goes into parentheses.
@@ -145,10 +137,8 @@ fn begin_enclosed(
         parts: Vec::new(alloc),
         units: Vec::new(alloc),
     };
-    match enter(places, place, limit) {
-        Ok(()) => Ok(Step::Begin(at + 1)),
-        Err(error) => Err(error),
-    }
+    enter(places, place, limit)?;
+    Ok(Step::Begin(at + 1))
 }
 
 // Reads a unit without parts, or goes into one with parts.
@@ -172,13 +162,11 @@ fn begin(
     if let Some(prefix) = prefix_named(word) {
         return begin_prefixed(tokens, places, at, prefix, limit);
     }
-    match single_named(word) {
-        Some(single) => match read_leaf(alloc, tokens, at, single) {
-            Ok((conv, next)) => Ok(Step::Close(conv, next)),
-            Err(error) => Err(error),
-        },
-        None => Err(ReadError::Syntax),
-    }
+    let Some(single) = single_named(word) else {
+        return Err(ReadError::Syntax);
+    };
+    let (conv, next) = read_leaf(alloc, tokens, at, single)?;
+    Ok(Step::Close(conv, next))
 }
 
 // Goes on behind a chain of ORELSEC in parentheses.
@@ -206,10 +194,8 @@ fn behind_choice(
         return Err(ReadError::Syntax);
     }
     let (first, others) = parted(parts);
-    match in_order(alloc, first, others) {
-        Ok(conv) => Ok(Step::Close(conv, next + 1)),
-        Err(error) => Err(error),
-    }
+    let conv = in_order(alloc, first, others)?;
+    Ok(Step::Close(conv, next + 1))
 }
 
 // Goes on behind a unit in parentheses.
@@ -232,10 +218,8 @@ fn behind_unit(
         return Ok(Step::Begin(next + 1));
     }
     let (first, others) = parted(units);
-    match either(alloc, first, others) {
-        Ok(choice) => behind_choice(alloc, tokens, places, parts, choice, next),
-        Err(error) => Err(error),
-    }
+    let choice = either(alloc, first, others)?;
+    behind_choice(alloc, tokens, places, parts, choice, next)
 }
 
 // Closes the innermost place around a unit.

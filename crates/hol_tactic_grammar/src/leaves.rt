@@ -83,10 +83,8 @@ pub fn read_by_name<'a>(
     requires front { IsAt (Name (named_word (named_of tactic))) at tokens.now }
     ensures { (room : ℕ) → ReadsUnit result at room tokens.now }
 {
-    match read_name(alloc, tokens, at + 1) {
-        Ok(name) => Ok((named_tactic(tactic, name), at + 2)),
-        Err(error) => Err(error),
-    }
+    let name = read_name(alloc, tokens, at + 1)?;
+    Ok((named_tactic(tactic, name), at + 2))
 }
 
 /// A refiner and the quoted term behind it.
@@ -99,10 +97,8 @@ pub fn read_by_quote<'a>(
     requires { IsAt (Name (quoted_word (quoted_of tactic))) at tokens.now }
     ensures { (room : ℕ) → ReadsUnit result at room tokens.now }
 {
-    match read_quote(alloc, tokens, at + 1) {
-        Ok((steps, next)) => Ok((quoted_tactic(tactic, steps), next)),
-        Err(error) => Err(error),
-    }
+    let (steps, next) = read_quote(alloc, tokens, at + 1)?;
+    Ok((quoted_tactic(tactic, steps), next))
 }
 
 /// CONV_TAC and the conversion behind it.
@@ -116,10 +112,8 @@ pub fn read_conv_tac<'a>(
     requires front { IsAt (Name (other_word Conv)) at tokens.now }
     ensures { ReadsUnit result at room tokens.now }
 {
-    match read_unit(alloc, tokens, at + 1, room) {
-        Ok((conv, next)) => Ok((Tac::Leaf(Leaf::Conv(conv)), next)),
-        Err(error) => Err(error),
-    }
+    let (conv, next) = read_unit(alloc, tokens, at + 1, room)?;
+    Ok((Tac::Leaf(Leaf::Conv(conv)), next))
 }
 
 // The names of a list in brackets, and the place behind it.
@@ -166,8 +160,6 @@ pub fn read_rewrite_tac<'a>(
     if room == 0 {
         return Err(ReadError::Syntax);
     }
-    match read_names(alloc, tokens, at + 1) {
-        Ok((names, next)) => Ok((Tac::Leaf(Leaf::Rewrite(names)), next)),
-        Err(error) => Err(error),
-    }
+    let (names, next) = read_names(alloc, tokens, at + 1)?;
+    Ok((Tac::Leaf(Leaf::Rewrite(names)), next))
 }

@@ -37,8 +37,6 @@ pub fn read_quote<'a>(
     let Some(end) = find_quote(tokens, begin) else {
         return Err(ReadError::Syntax);
     };
-    match parse_term(alloc, &tokens[begin..end]) {
-        Ok(steps) => Ok((steps, end + 1)),
-        Err(error) => Err(error),
-    }
+    let steps = parse_term(alloc, &tokens[begin..end])?;
+    Ok((steps, end + 1))
 }

@@ -185,10 +185,8 @@ impl<'a> Reader<'a> {
         if is_word(tokens, next, "ORELSE") {
             return self.wait(Open::Choice(first, others), next + 1);
         }
-        match or_else(alloc, first, others) {
-            Ok(choice) => self.end_choice(alloc, choice, next),
-            Err(_) => Err(ReadError::Memory),
-        }
+        let choice = or_else(alloc, first, others)?;
+        self.end_choice(alloc, choice, next)
     }
 
     // Whether a chain of ORELSE begins one of THEN and THENL: the newest open place takes no chain of ORELSE.
@@ -240,10 +238,8 @@ impl<'a> Reader<'a> {
         if is_word(tokens, next, "THENL") {
             return self.begin_list(alloc, tokens, first, links, next);
         }
-        match then_on(alloc, first, links) {
-            Ok(tactic) => self.end_chain(tokens, tactic, next),
-            Err(_) => Err(ReadError::Memory),
-        }
+        let tactic = then_on(alloc, first, links)?;
+        self.end_chain(tokens, tactic, next)
     }
 
     // What stands behind THENL.
@@ -430,20 +426,15 @@ fn unit_made<'a>(
 ) -> Result<Reading<'a>, ReadError>
     ensures { result ≡ unit_made made.entry next }
 {
-    match made {
-        Ok(unit) => Ok(Reading::Unit(unit, next)),
-        Err(error) => Err(error),
-    }
+    Ok(Reading::Unit(made?, next))
 }
 
 // A unit that is read.
 fn read_up_to<'a>(read: Result<(Refiner<'a>, usize), ReadError>) -> Result<Reading<'a>, ReadError>
     ensures { result ≡ unit_read read.entry }
 {
-    match read {
-        Ok((unit, next)) => Ok(Reading::Unit(unit, next)),
-        Err(error) => Err(error),
-    }
+    let (unit, next) = read?;
+    Ok(Reading::Unit(unit, next))
 }
 
 /// The refiner expression that the tokens are (HOL Light's tactics.ml), its quoted terms by their steps. Refused: Syntax where they

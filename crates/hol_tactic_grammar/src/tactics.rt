@@ -37,10 +37,7 @@ pub fn or_else<'a>(
     if others.is_empty() {
         return Ok(first);
     }
-    match with_others(alloc, first, others) {
-        Ok(tactic) => Ok(tactic),
-        Err(_) => Err(ReadError::Memory),
-    }
+    with_others(alloc, first, others)
 }
 
 // The first and the links on it.
@@ -66,10 +63,7 @@ pub fn then_on<'a>(
     if links.is_empty() {
         return Ok(first);
     }
-    match with_links(alloc, first, links) {
-        Ok(tactic) => Ok(tactic),
-        Err(_) => Err(ReadError::Memory),
-    }
+    with_links(alloc, first, links)
 }
 
 /// The refiner behind a prefix.

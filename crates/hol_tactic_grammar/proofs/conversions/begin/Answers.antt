@@ -1,4 +1,5 @@
 use Rattle.std.proofs.Common.{◌+◌, reverse, sym}
+use Rattle.std.proofs.lemmas.Result.{err_from_is_err_and}
 use Rattle.hol_syntax_grammar.specs.declared.type_reader.ReadError.TheVariants.{Syntax}
 use Rattle.hol_tactic_grammar.specs.Tokens.{behind}
 use Rattle.hol_tactic_grammar.proofs.ConversionLemmas.{no-unit, no-unit-word}
@@ -10,15 +11,17 @@ returns-in_default c = λ start wanted.
     unread (reverse c.args.places.now.items) Syntax c.args.at wanted.room start c.args.limit c.args.tokens.now wanted.around
     (no-unit wanted.room (behind c.args.at c.args.tokens.now) c.if-is_mark.ensures c.in_default.ensures)
 
-pub returns-in-None : goal.returns-in-None
-returns-in-None c = λ start wanted.
+pub returns-in_default-single_named : goal.returns-in_default-single_named
+returns-in_default-single_named c = λ start wanted.
     unread (reverse c.args.places.now.items) Syntax c.args.at wanted.room start c.args.limit c.args.tokens.now wanted.around
     (no-unit-word wanted.room (behind c.args.at c.args.tokens.now) (behind (c.args.at + 1) c.args.tokens.now) c.in-Some.word.now c.in-Some.ensures.front
-    (sym c.in_default-prefix_named.ensures) (sym c.in-None.ensures))
+    (sym c.in_default-prefix_named.ensures) (sym c.in_default-single_named.ensures))
 
-pub returns-in-Ok : goal.returns-in-Ok
-returns-in-Ok c = λ start wanted. leaf-taken c.in-Ok.conv (reverse c.args.places.now.items) c.args.at c.in-Ok.next start c.args.limit c.args.tokens.now c.in-Ok.ensures wanted
+pub returns : goal.returns
+returns c = λ start wanted. leaf-taken c.in_ok-conv.conv (reverse c.args.places.now.items) c.args.at c.in_ok-conv.next start c.args.limit c.args.tokens.now c.in_ok-conv.ensures wanted
 
-pub returns-in-Err : goal.returns-in-Err
-returns-in-Err c = λ start wanted.
-    unread (reverse c.args.places.now.items) c.in-Err.error c.args.at wanted.room start c.args.limit c.args.tokens.now wanted.around (c.in-Err.ensures wanted.room)
+pub returns-in_err-conv : goal.returns-in_err-conv
+returns-in_err-conv c =
+    let p = err_from_is_err_and c.from_residual.result c.from_residual.ensures.1 in
+    rw (p.1, p.2) (λ start wanted.
+    unread (reverse c.args.places.now.items) c.in_err-conv.field-0.0 c.args.at wanted.room start c.args.limit c.args.tokens.now wanted.around (c.in_err-conv.ensures wanted.room))

@@ -13,7 +13,7 @@ pub returns-then-not-is_mark : goal.returns-then-not-is_mark
 returns-then-not-is_mark c = λ start limit held.
     enclosed-unclosed c.args.parts.items c.args.choice (reverse c.args.places.now.items) c.args.next start limit c.args.tokens.now c.if-is_word.ensures c.if-not-is_mark.ensures held
 
-pub returns-in-Ok : goal.returns-in-Ok
-returns-in-Ok c = λ start limit held.
-    enclosed-closed c.args.parts.items c.args.choice c.in-Ok.conv c.parted-first.result.0 c.push.new.self.items c.parted-first.result.1.items (reverse c.args.places.now.items) c.args.next start limit
-    c.args.tokens.now c.in_ok-push.ensures.items c.parted-first.ensures c.if-is_word.ensures c.if-not-is_mark.ensures c.in-Ok.ensures held
+pub returns : goal.returns
+returns c = λ start limit held.
+    enclosed-closed c.args.parts.items c.args.choice c.in_ok-conv.conv c.parted-first.result.0 c.push.new.self.items c.parted-first.result.1.items (reverse c.args.places.now.items) c.args.next start limit
+    c.args.tokens.now c.in_ok-push.ensures.items c.parted-first.ensures c.if-is_word.ensures c.if-not-is_mark.ensures c.in_ok-conv.ensures held

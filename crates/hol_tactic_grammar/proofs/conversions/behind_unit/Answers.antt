@@ -9,8 +9,8 @@ returns-then-is_word c = λ start limit held.
     unit-goes-on c.args.parts c.args.units c.push.new.self c.args.unit (reverse c.args.places.now.items) (reverse places) c.args.next start limit c.args.tokens.now
     c.in_ok-push.ensures.items (newest c.args.places.now.items places (Enclosed c.args.parts c.push.new.self) c.in_ok-push-2.ensures.items) c.if-is_word.ensures held
 
-pub returns-in-Ok : goal.returns-in-Ok
-returns-in-Ok c = λ start limit held.
+pub returns : goal.returns
+returns c = λ start limit held.
     c.behind_choice.ensures start limit
-    (choice-closed c.args.parts c.args.units c.args.unit c.in-Ok.choice c.parted-first.result.0 c.push.new.self.items c.parted-first.result.1.items (reverse c.args.places.now.items)
-    c.args.next start limit c.args.tokens.now c.in_ok-push.ensures.items c.parted-first.ensures c.if-is_word.ensures c.in-Ok.ensures held)
+    (choice-closed c.args.parts c.args.units c.args.unit c.in_ok-choice.choice c.parted-first.result.0 c.push.new.self.items c.parted-first.result.1.items (reverse c.args.places.now.items)
+    c.args.next start limit c.args.tokens.now c.in_ok-push.ensures.items c.parted-first.ensures c.if-is_word.ensures c.in_ok-choice.ensures held)

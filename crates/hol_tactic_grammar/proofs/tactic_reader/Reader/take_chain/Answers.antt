@@ -1,11 +1,12 @@
 use Rattle.std.proofs.Common.{◌+◌, map, arith}
+use Rattle.std.proofs.lemmas.Result.{err_from_is_err_and}
 use Rattle.hol_syntax_grammar.specs.Views.{tokens_of}
 use Rattle.hol_tactic_grammar.specs.declared.tactic_reader.Open.TheVariants.{Chain}
 use Rattle.hol_tactic_grammar.specs.declared.tactic_reader.Reading.TheVariants as readings
 use Rattle.hol_tactic_grammar.specs.Tokens.{behind}
 use Rattle.hol_tactic_grammar.specs.Expressions.{expression_here, joint_here}
 use Rattle.hol_tactic_grammar.specs.OpenTactics.{opens_of, turns_left}
-use Rattle.hol_tactic_grammar.proofs.OpenTacticLemmas.{waits, chain-waits, chain-whole}
+use Rattle.hol_tactic_grammar.proofs.OpenTacticLemmas.{unmade, waits, chain-waits, chain-whole}
 use Rattle.hol_tactic_grammar.proofs.tactic_reader.Reader.take_chain.Goals as goal
 
 pub returns-then-is_word : goal.returns-then-is_word
@@ -16,9 +17,14 @@ returns-then-is_word c =
     c.wait.ensures (chain-waits (opens_of reader) reader.room c.args.next (tokens_of tokens) c.args.first c.args.links tokens c.requires.reading c.if-is_word.ensures)
     (omega (arith, c.if-is_word.ensures.within))
 
+pub returns-in_err-tactic : goal.returns-in_err-tactic
+returns-in_err-tactic c =
+    let p = err_from_is_err_and c.from_residual.result c.from_residual.ensures.1 in
+    rw (p.1, p.2) (unmade c.in_err-tactic.field-0.0 _ c.args.tokens.now c.in_err-tactic.ensures)
+
 pub end_chain-requires : goal.end_chain-requires
 end_chain-requires c =
     let reader = c.args.self.now in
     let tokens = c.args.tokens.now in
-    chain-whole (opens_of reader) reader.room (tokens_of tokens) (behind c.args.next tokens) (expression_here c.args.first) (expression_here c.in-Ok.tactic) (map joint_here c.args.links.items)
-    c.requires.reading c.if-is_word.ensures c.if-is_word-2.ensures c.in-Ok.ensures
+    chain-whole (opens_of reader) reader.room (tokens_of tokens) (behind c.args.next tokens) (expression_here c.args.first) (expression_here c.in_ok-tactic.tactic) (map joint_here c.args.links.items)
+    c.requires.reading c.if-is_word.ensures c.if-is_word-2.ensures c.in_ok-tactic.ensures
