@@ -97,7 +97,7 @@ concluded-made theory hypotheses conclusion made is = go (is_within_limits concl
     go true is = refl
     go false is = cc
 
-equation-typed : (a b : NamedTerm) (ty : HolType) → type_of a ≡ Some ty → type_of b ≡ Some ty → type_of (equation a b) ≡ Some bool_type
+pub equation-typed : (a b : NamedTerm) (ty : HolType) → type_of a ≡ Some ty → type_of b ≡ Some ty → type_of (equation a b) ≡ Some bool_type
 equation-typed a b ty typed_a typed_b =
     ap (λ o. application_type (application_type (type_of (equality o)) o) (type_of b)) typed_a
     ∙ ap (λ o. application_type (application_type (Some (function_type ty (function_type ty bool_type))) (Some ty)) o) typed_b

@@ -1,13 +1,14 @@
 -- What each rule answers is a theorem.
 use Rattle.std.proofs.Common.{◌≡◌, ◌⊎◌, ℕ, List, [], ◌∷◌, ◌++◌, map, Bool, true, false, ◌&&◌, ◌||◌, not, refl, sym, ◌∙◌, ap, subst, inl, inr, Option}
 use Rattle.std.proofs.Common.{Some, None, Result, Ok, Err, IfOk, IfErr, if◌then◌else◌}
+use Rattle.std.specs.Prelude.{IsSome}
 use Rattle.std.specs.Option.{option_map, option_map_or}
 use Rattle.std.specs.Str.{bytes_eq}
 use Rattle.std.proofs.lemmas.Slice.Eq.{bytes_eq-Decides}
 use Rattle.hol_model.specs.declared.fault.Fault.{Fault}
 use Rattle.hol_model.specs.declared.fault.Fault.TheVariants.{Memory}
 use Rattle.hol_model.specs.Terms.HolType.{HolType, bool_type, function_type, type_eq, instantiate_type}
-use Rattle.hol_model.specs.Terms.NamedTerm.{NamedTerm, variable, constant, combination, abstraction, type_of, application_type, same_variable, is_free, dest_variable, equation}
+use Rattle.hol_model.specs.Terms.NamedTerm.{NamedTerm, variable, constant, combination, abstraction, type_of, application_type, same_variable, is_free, dest_variable, dest_combination, equality, equation}
 use Rattle.hol_model.specs.Terms.Nameless.{free, const, app, lam, HasType, image}
 use Rattle.hol_model.specs.Terms.Substitution.{close, occurs_free}
 use Rattle.hol_model.specs.Logic.Theory.{Theory, IsLegal, IsEarlier, IsKnown, IsKnownType, equality_name, equality_type, type_a, generic_type}
@@ -30,6 +31,7 @@ use Rattle.hol_kernel.specs.KnownFormula.{IsKnownFormula}
 use Rattle.hol_kernel.specs.Fits.{TransFits, EqMpFits}
 use Rattle.hol_kernel.proofs.KnownLemmas.{no_unknown, known_where_none}
 use Rattle.hol_kernel.proofs.HypothesesLemmas.{with_hypotheses-same_set, image-without_hypothesis}
+use Rattle.hol_kernel.proofs.LimitLemmas.{equation-typed}
 use Rattle.hol_kernel.proofs.OrderLemmas.{with_hypotheses-ordered, kept-ordered}
 
 -- known terms
@@ -76,6 +78,7 @@ standing theory legal theorem earlier is = Derivable-earlier theorem.theory theo
 -- the sides of an equation, their type and the image
 pub record IsEquation (conclusion left right : NamedTerm) : Type 0 where
   pub ty : HolType
+  pub is : conclusion ≡ equation left right
   pub image_is : image conclusion ≡ nameless_equation ty (image left) (image right)
   pub left_typed : type_of left ≡ Some ty
   pub right_typed : type_of right ≡ Some ty
@@ -83,19 +86,21 @@ pub record IsEquation (conclusion left right : NamedTerm) : Type 0 where
 equation_parts : (theory : Theory) → IsLegal theory → (name : List ℕ) (s : HolType) (left right : NamedTerm) → name ≡ equality_name
     → IsKnown theory (app (app (const name s) (image left)) (image right)) bool_type → IsEquation (combination (combination (constant name s) left) right) left right
 equation_parts theory legal name s left right is_equality known =
-    let constant = known.parts.0.0.1 in
+    let declared = known.parts.0.0.1 in
     let generic : generic_type theory name ≡ Some (equality_type type_a) = rw is_equality (generic_type-logical theory legal equality_name (equality_type type_a) refl) in
-    let found = constant.is_generic in
-    let same : constant.generic ≡ equality_type type_a = cc in
-    let ty = constant.is_instance.instance (65 ∷ []) in
-    let is_type : s ≡ equality_type ty = constant.is_instance.is_instance ∙ ap (λ g. instantiate_type constant.is_instance.instance g) same in
+    let found = declared.is_generic in
+    let same : declared.generic ≡ equality_type type_a = cc in
+    let ty = declared.is_instance.instance (65 ∷ []) in
+    let is_type : s ≡ equality_type ty = declared.is_instance.is_instance ∙ ap (λ g. instantiate_type declared.is_instance.instance g) same in
     let typed = known.typed.1.1 in
     let first : known.typed.1.0 ≡ ty = cc in
     let second : known.typed.0 ≡ ty = cc in
+    let left_typed : type_of left ≡ Some ty = image-type left ty (subst (λ (t : HolType). HasType [] (image left) t) first known.typed.1.2) in
     record {
       ty = ty;
+      is = (λ i. combination (combination (constant (is_equality i) (is_type i)) left) right) ∙ ap (λ o. combination (combination (equality o) left) right) (sym left_typed);
       image_is = rw (is_equality, is_type) refl;
-      left_typed = image-type left ty (subst (λ (t : HolType). HasType [] (image left) t) first known.typed.1.2);
+      left_typed = left_typed;
       right_typed = image-type right ty (subst (λ (t : HolType). HasType [] (image right) t) second known.typed.2);
     }
 
@@ -119,6 +124,13 @@ sides theory legal _ a b known is = cc
 -- the sides of a theorem that is an equation
 own_sides : (theorem : Theorem) → IsTheorem theorem → (left right : NamedTerm) → dest_equation theorem.conclusion ≡ Some (left, right) → IsEquation theorem.conclusion left right
 own_sides theorem is left right dest = sides theorem.theory is.legal theorem.conclusion left right (Derivable-known theorem.theory is.legal is.derivable).conclusion dest
+
+-- `=` applied to the left side of a theorem's equation makes an equation of it with another side
+pub same_left : (theorem : Theorem) → IsTheorem theorem → (left right applied side other : NamedTerm) → dest_equation theorem.conclusion ≡ Some (left, right)
+    → theorem.conclusion ≡ combination applied side → combination applied other ≡ equation left other
+same_left theorem is left right applied side other dest whole =
+    let function = λ (t : NamedTerm). option_map_or (λ (p : NamedTerm × NamedTerm). p.0) (dest_combination t) t in
+    ap (λ t. combination t other) (ap function (sym whole ∙ (own_sides theorem is left right dest).is))
 
 -- the same image, so the same type
 same_type : (a b : NamedTerm) (s t : HolType) → type_of a ≡ Some s → type_of b ≡ Some t → image a ≡ image b → s ≡ t
@@ -275,6 +287,15 @@ module _ (theory : Theory) (legal : IsLegal theory) where
       let one : left.ty ≡ right.ty = same_type b m left.ty right.ty left.right_typed right.left_typed alpha in
       left.left_typed ∙ ap Some one ∙ sym right.right_typed
 
+  -- so the first equation's `=` of its left side takes the right side of the second
+  pub trans-typed : (first second : Theorem) → IsEarlier first.theory theory → IsEarlier second.theory theory → IsTheorem first → IsTheorem second
+      → (a b m c term : NamedTerm) → dest_equation first.conclusion ≡ Some (a, b) → dest_equation second.conclusion ≡ Some (m, c) → image b ≡ image m
+      → term ≡ equation a c → IsSome (type_of term)
+  trans-typed first second earlier_first earlier_second is_first is_second a b m c term dest_first dest_second alpha same =
+      let left = equation_of first earlier_first is_first a b dest_first in
+      let typed = trans-types first second earlier_first earlier_second is_first is_second a b m c dest_first dest_second alpha in
+      rw (same, equation-typed a c left.ty left.left_typed (sym typed ∙ left.left_typed)) refl
+
   pub trans-theorem : (first second : Theorem) → IsEarlier first.theory theory → IsEarlier second.theory theory → IsTheorem first → IsTheorem second
       → (a b m c : NamedTerm) → dest_equation first.conclusion ≡ Some (a, b) → dest_equation second.conclusion ≡ Some (m, c) → image b ≡ image m
       → IsTheorem (record { theory = theory; hypotheses = with_hypotheses first.hypotheses second.hypotheses; conclusion = equation a c })
@@ -424,12 +445,18 @@ pub abs-concluded : (theory : Theory) (binder : NamedTerm) (theorem : Theorem) (
 abs-concluded theory binder theorem name ty a b is_binder dest known fresh = rw (is_binder, dest, known, fresh) refl
 
 -- the outcome of a rule that ends in an equation, as the program makes its parts
+pub answers-alike : (result outcome : Result Theorem Fault) (theory entries : Theory) (hypotheses items : List NamedTerm) (conclusion term : NamedTerm)
+    → outcome ≡ concluded theory hypotheses conclusion → entries ≡ theory → items ≡ hypotheses → term ≡ conclusion
+    → Answers result (concluded entries items term) → Answers result outcome
+answers-alike result outcome theory entries hypotheses items conclusion term is one two three answers =
+    let parts : concluded entries items term ≡ concluded theory hypotheses conclusion = λ i. concluded (one i) (two i) (three i) in
+    subst (λ (o : Result Theorem Fault). Answers result o) (parts ∙ sym is) answers
+
 pub answers-concluded : (result outcome : Result Theorem Fault) (theory entries : Theory) (hypotheses items : List NamedTerm) (a b left right : NamedTerm)
     → outcome ≡ concluded theory hypotheses (equation a b) → entries ≡ theory → items ≡ hypotheses → left ≡ a → right ≡ b
     → Answers result (concluded entries items (equation left right)) → Answers result outcome
 answers-concluded result outcome theory entries hypotheses items a b left right is one two three four answers =
-    let parts : concluded entries items (equation left right) ≡ concluded theory hypotheses (equation a b) = λ i. concluded (one i) (two i) (equation (three i) (four i)) in
-    subst (λ (o : Result Theorem Fault). Answers result o) (parts ∙ sym is) answers
+    answers-alike result outcome theory entries hypotheses items (equation a b) (equation left right) is one two (λ i. equation (three i) (four i)) answers
 
 -- the outcome of a rule that only memory can refuse, as the program makes its parts
 pub answers-made : (result outcome : Result Theorem Fault) (theory entries : Theory) (hypotheses items : List NamedTerm) (term conclusion : NamedTerm)

@@ -1,5 +1,5 @@
 // Equations, taken apart and made.
-ghost use Rattle.std.specs.Prelude.{◌≡◌, IsSome};
+ghost use Rattle.std.specs.Prelude.{◌≡◌, IsSome, IfSome};
 ghost use Rattle.std.specs.Option.{option_map, is_some};
 ghost use Rattle.hol_model.specs.Terms.NamedTerm.{type_of};
 ghost use Rattle.hol_model.specs.Terms.NamedTerm as spec;
@@ -11,16 +11,29 @@ use hol_model::Fault;
 use hol_terms::{Parts, Term, mk_eq, same_variable};
 use std::alloc::Global;
 
-/// The sides of an equation.
-pub fn dest_eq(term: &Term) -> Option<(&Term, &Term)>
-    ensures { option_map (λ sides. (sides.0.now, sides.1.now)) result ≡ rules.dest_equation term.now }
+/// An equation: `=` applied to its left side, and the sides.
+#[derive(Clone, Copy)]
+pub struct EquationParts<'a> {
+    pub applied: &'a Term,
+    pub left: &'a Term,
+    pub right: &'a Term,
+}
+
+/// The parts of the term, where it is an equation.
+pub fn equation_parts(term: &Term) -> Option<EquationParts<'_>>
+    ensures sides { option_map (λ parts. (parts.left.now, parts.right.now)) result ≡ rules.dest_equation term.now }
+    ensures whole { IfSome result (λ parts. term.now ≡ spec.combination parts.applied.now parts.right.now) }
 {
     match term.parts() {
         Parts::Combination(applied, right) => match applied.parts() {
             Parts::Combination(function, left) => match function.parts() {
                 Parts::Constant(name, _) => {
                     if name == "=" {
-                        Some((left, right))
+                        Some(EquationParts {
+                            applied,
+                            left,
+                            right,
+                        })
                     } else {
                         None
                     }
@@ -31,6 +44,14 @@ pub fn dest_eq(term: &Term) -> Option<(&Term, &Term)>
         },
         _ => None,
     }
+}
+
+/// The sides of an equation.
+pub fn dest_eq(term: &Term) -> Option<(&Term, &Term)>
+    ensures { option_map (λ sides. (sides.0.now, sides.1.now)) result ≡ rules.dest_equation term.now }
+{
+    let parts = equation_parts(term)?;
+    Some((parts.left, parts.right))
 }
 
 /// The equation of two terms of one type.

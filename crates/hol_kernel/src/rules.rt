@@ -1,9 +1,9 @@
 // The rules of the kernel (those of HOL Light's `fusion.ml`). A theorem handed in stands on this theory or an earlier
 // state of it; the answer stands on this theory. A rule answers the first of its refusals that applies, in the order in
 // which its comment has them, or Memory where there is none left. The hypotheses of two premises are put together.
-ghost use Rattle.std.specs.Prelude.{◌≡◌, [], ◌∷◌, Some, true, IfOk};
+ghost use Rattle.std.specs.Prelude.{◌≡◌, [], ◌∷◌, Some, true, IfOk, IsSome};
 ghost use Rattle.hol_model.specs.Terms.HolType.{HolType};
-ghost use Rattle.hol_model.specs.Terms.NamedTerm.{type_of, equation};
+ghost use Rattle.hol_model.specs.Terms.NamedTerm.{type_of, equation, combination};
 ghost use Rattle.hol_model.specs.Logic.Theory.{IsEarlier};
 ghost use Rattle.hol_model.specs.Logic.KnownTerm.{is_known};
 ghost use Rattle.hol_model.specs.Kernel.Theorem.{IsTheorem};
@@ -14,7 +14,7 @@ ghost use Rattle.hol_kernel.specs.Fits.{TransFits, EqMpFits};
 
 use crate::entries::Entries;
 use crate::equation::{
-    abstraction, application, combination, dest_eq, dest_trivial_redex, equation,
+    abstraction, application, combination, dest_eq, dest_trivial_redex, equation, equation_parts,
 };
 use crate::hypotheses::{
     copies, is_free_in_hypotheses, one_hypothesis, with_hypotheses, without_hypothesis,
@@ -43,6 +43,23 @@ fn equation_theorem(
 {
     let _typed = left.ty();
     let conclusion = equation(alloc, left, right)?;
+    Thm::new(alloc, entries, hypotheses, conclusion)
+}
+
+// The theorem that is a function applied to an argument, where it is shown to be one.
+fn combination_theorem(
+    alloc: Global,
+    entries: &Entries,
+    hypotheses: Vec<Term>,
+    function: &Term,
+    argument: &Term,
+) -> Result<Thm, Fault>
+    requires typed { IsSome (type_of (combination function.now argument.now)) }
+    requires theorem { IsTheorem (record { theory = entries.now; hypotheses = hypotheses.items; conclusion = combination function.now argument.now }) }
+    ensures outcome { Answers result (outcome.concluded entries.now hypotheses.items (combination function.now argument.now)) }
+    ensures stands_on { IfOk result (λ answer. answer.theory ≡ entries.now) }
+{
+    let conclusion = combination(alloc, function, argument)?;
     Thm::new(alloc, entries, hypotheses, conclusion)
 }
 
@@ -123,14 +140,14 @@ impl Theory {
         ensures outcome { Answers result (outcome.trans_outcome self.now first.now second.now) }
         ensures stands_on { IfOk result (λ answer. answer.theory ≡ self.now) }
     {
-        let Some((left, _)) = dest_eq(first.concl()) else {
+        let Some(parts) = equation_parts(first.concl()) else {
             return Err(Fault::NotEquation);
         };
         let Some((_, right)) = dest_eq(second.concl()) else {
             return Err(Fault::NotEquation);
         };
         let hypotheses = with_hypotheses(alloc, first.hyps(), second.hyps())?;
-        equation_theorem(alloc, self.entries(), hypotheses, left, right)
+        combination_theorem(alloc, self.entries(), hypotheses, parts.applied, right)
     }
 
     /// EQ_MP: from `p = q` and `p`, `q`. NotEquation where the first conclusion is no equation; NotAlpha where its left side
