@@ -1,7 +1,6 @@
 -- The token at the front is the one that the definition of tokens says.
 use Rattle.std.proofs.Common.{◌≡◌, ◌≢◌, ℕ, ◌+◌, ◌-◌, ◌*◌, ◌≤◌, Bool, true, false, ◌==◌, List, [], ◌∷◌, ◌++◌, Option, None, Some, refl, sym, ap, ◌∙◌, subst, arith, append_assoc, unwrap_or, ◌<◌}
-use Rattle.std.proofs.Common.{length, drop, drop-cons, suc, get_or, Bor, MatchOption}
-use Rattle.hol_syntax_grammar.specs.Classes.{IsStripped}
+use Rattle.std.proofs.Common.{length, drop, drop-cons, suc, get_or}
 use Rattle.std.proofs.lemmas.List.{append-nil, length-append, nil_from_length}
 use Rattle.std.proofs.lemmas.Bool.{eqb-true, eq-eqb, leb-true, le-leb, lt-leb}
 use Rattle.std.proofs.lemmas.Bool.Decides.{nat_tests}
@@ -63,10 +62,6 @@ strips (a ∷ text) (b ∷ bytes) = go (a == b) refl (strip text bytes) (strips 
         let same : a ≡ b = cc in
         let yes : (a == b) ≡ true = eq-eqb a b same in
         let no : true ≡ false = sym yes ∙ e in cc
-
-strip_some : (text rest : List ℕ) → strip text (text ++ rest) ≡ Some rest
-strip_some [] rest = refl
-strip_some (a ∷ text) rest = ap (λ t. when t (strip text (text ++ rest))) (eq-eqb a a refl) ∙ strip_some text rest
 
 strip_none : (text bytes : List ℕ) → ((rest : List ℕ) → bytes ≢ text ++ rest) → strip text bytes ≡ None
 strip_none text bytes h = go (strip text bytes) (strips text bytes)
@@ -289,10 +284,6 @@ lexed_one text done bytes rest token h e n = record {
         let f = first_is bytes others n l in
         let s = same f.0 f.1 f.4 in
         (f.2, eq ∙ ap (λ o. done ++ o) (f.3 ∙ ap (λ t. t ∷ f.2) s.0) ∙ sym (append_assoc done (token ∷ []) f.2), subst (λ r. Lexes r f.2) s.1 f.5)
-
-pub stripped : (text bytes : List ℕ) (r : Option (Bor (List ℕ))) → MatchOption r ((rest : List ℕ) → bytes ≢ text ++ rest) (λ x. bytes ≡ text ++ x.now) → IsStripped r (strip text bytes)
-stripped text bytes None h = strip_none text bytes h
-stripped text bytes (Some x) h = ap (strip text) h ∙ strip_some text x.now
 
 -- each turn leaves less of the text
 pub less : (p : ℕ → Bool) (bytes rest : List ℕ) (token : Token) → token_at bytes ≡ Some (token, rest) → length (back p rest) < length bytes

@@ -7,10 +7,10 @@ use Rattle.hol_model.specs.Texts.Token.{Token, Name, Number, Mark, symbol_text}
 use Rattle.hol_model.specs.declared.limits.TheConstants.{NUMBER_LIMIT}
 use Rattle.hol_model.specs.Texts.Lexing.{is_letter, is_digit, is_name_byte, numeral_value}
 
--- every symbol behind those that begin with it
+-- every symbol behind those that begin with it, the commonest first
 abbrev pub symbols : List Symbol
-symbols = Iff ∷ Implies ∷ Arrow ∷ And ∷ Or ∷ Turnstile ∷ Equal ∷ Backslash ∷ Exclamation ∷ Question ∷ At ∷ Tilde
-    ∷ OpenParenthesis ∷ CloseParenthesis ∷ OpenBracket ∷ CloseBracket ∷ Colon ∷ Dot ∷ Comma ∷ Semicolon ∷ Backquote ∷ []
+symbols = OpenParenthesis ∷ CloseParenthesis ∷ Colon ∷ Arrow ∷ Dot ∷ Comma ∷ Implies ∷ Equal ∷ And ∷ Or ∷ Backslash
+    ∷ Tilde ∷ Exclamation ∷ Question ∷ Iff ∷ Backquote ∷ Semicolon ∷ OpenBracket ∷ CloseBracket ∷ At ∷ Turnstile ∷ []
 
 abbrev pub when : {A : Type 0} → Bool → Option A → Option A
 when true o = o

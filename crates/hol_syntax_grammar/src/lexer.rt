@@ -21,29 +21,29 @@ enum Class {
     Blank,
 }
 
-// Every symbol behind those that begin with it.
+// Every symbol behind those that begin with it, the commonest first.
 const SYMBOLS: [Symbol; 21] = [
-    Symbol::Iff,
-    Symbol::Implies,
-    Symbol::Arrow,
-    Symbol::And,
-    Symbol::Or,
-    Symbol::Turnstile,
-    Symbol::Equal,
-    Symbol::Backslash,
-    Symbol::Exclamation,
-    Symbol::Question,
-    Symbol::At,
-    Symbol::Tilde,
     Symbol::OpenParenthesis,
     Symbol::CloseParenthesis,
-    Symbol::OpenBracket,
-    Symbol::CloseBracket,
     Symbol::Colon,
+    Symbol::Arrow,
     Symbol::Dot,
     Symbol::Comma,
-    Symbol::Semicolon,
+    Symbol::Implies,
+    Symbol::Equal,
+    Symbol::And,
+    Symbol::Or,
+    Symbol::Backslash,
+    Symbol::Tilde,
+    Symbol::Exclamation,
+    Symbol::Question,
+    Symbol::Iff,
     Symbol::Backquote,
+    Symbol::Semicolon,
+    Symbol::OpenBracket,
+    Symbol::CloseBracket,
+    Symbol::At,
+    Symbol::Turnstile,
 ];
 
 fn is_in(class: Class, b: u8) -> bool
@@ -115,7 +115,14 @@ fn split(class: Class, bytes: &[u8]) -> (&[u8], &[u8])
 fn strip<'a>(text: &[u8], bytes: &'a [u8]) -> Option<&'a [u8]>
     ensures { IsStripped result (strip text.now bytes.now) }
 {
-    bytes.strip_prefix(text)
+    let Some((first, others)) = text.split_first() else {
+        return Some(bytes);
+    };
+    let (next, rest) = bytes.split_first()?;
+    if first != next {
+        return None;
+    }
+    strip(others, rest)
 }
 
 // The first symbol of the table that stands at the front, and what follows it.
