@@ -1,1 +1,2 @@
 pub mod SameBinders
+pub mod SameTests
