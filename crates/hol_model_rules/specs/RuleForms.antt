@@ -1,5 +1,6 @@
 -- How rules are written in scripts.
-use Rattle.std.specs.Prelude.{ℕ, List, codes}
+use Rattle.std.specs.Prelude.{◌≡◌, ◌↔◌, ℕ, List, codes, Option, Some, Bool}
+use Rattle.std.specs.Str.{bytes_eq}
 use Rattle.hol_model_rules.specs.declared.rule_name.RuleName.{RuleName}
 use Rattle.hol_model_rules.specs.declared.rule_name.RuleName.TheVariants.{Refl, Trans, MkComb, Abs, Beta, Assume, EqMp, DeductAntisym, EtaAxiom, SelectAxiom, Sym, AddAssum, ProveHyp, EqtIntro, EqtElim, BetaConv}
 use Rattle.hol_model_rules.specs.declared.rule_name.RuleName.TheVariants.{Conj, Conjunct1, Conjunct2, Disch, Undisch, Mp, Spec, Gen, Disj1, Disj2, DisjCases, Contr, NotIntro, NotElim, Exists, Choose}
@@ -46,3 +47,11 @@ form_of NotIntro = form (codes "NOT_INTRO") 0 1
 form_of NotElim = form (codes "NOT_ELIM") 0 1
 form_of Exists = form (codes "EXISTS") 2 1
 form_of Choose = form (codes "CHOOSE") 1 2
+
+-- whether a rule has this word
+abbrev pub has_word : List ℕ → RuleName → Bool
+has_word word rule = bytes_eq (form_of rule).word word
+
+-- the rule that a word is the word of; none, where it is the word of none
+abbrev pub IsRuleOf : List ℕ → Option RuleName → Type 0
+IsRuleOf word found = (rule : RuleName) → (found ≡ Some rule) ↔ (word ≡ (form_of rule).word)

@@ -2,14 +2,15 @@
 use Rattle.std.proofs.Common.{◌≡◌, ◌≢◌, ℕ, zero, suc, ◌+◌, ◌-◌, ◌<◌, ◌≤◌, arith, List, [], ◌∷◌, ◌++◌, length, get_or, take, drop, ◌==◌, eqb-true}
 use Rattle.std.proofs.Common.{rules, Bool, true, false, ◌||◌, refl, sym, ◌∙◌, ap, subst, Option, None, Some, Result, Ok, Err, Bor, Vec, Global, map}
 use Rattle.std.specs.Prelude.{codes, IsFalse, IsTrue, MatchOption}
-use Rattle.std.specs.Option.{option_or}
-use Rattle.std.proofs.lemmas.Slice.Eq.{bytes_eq-Decides}
 use Rattle.std.proofs.lemmas.List.{take_all, length-drop, append_assoc}
 use borrow.Author.Count.{below_more}
 use Rattle.hol_model.specs.Terms.Name.{is_capital, is_small, continues_name, all_continue, is_identifier}
 use Rattle.hol_model.specs.declared.symbol.Symbol.{Symbol}
 use Rattle.hol_model.specs.declared.symbol.Symbol.TheVariants.{Backquote}
-use Rattle.hol_model_rules.specs.RuleForms.{form_of}
+use Rattle.std.specs.List.{find}
+use Rattle.hol_model_rules.specs.RuleForms.{form_of, has_word, IsRuleOf}
+use Rattle.hol_model_rules.specs.declared.rule_name.RuleName.TheVariants as names
+use Rattle.hol_model_rules.proofs.Words.{own-word}
 use Rattle.hol_model_rules.specs.declared.rule_name.RuleName.{RuleName}
 use Rattle.hol_model.specs.Texts.Token.{Token, Name, Number, Mark}
 use Rattle.hol_model.specs.Texts.Lexing.{Lexes, IsToken, IsIdentifier, Every, is_name_byte}
@@ -28,7 +29,7 @@ use Rattle.hol_syntax_grammar.specs.declared.type_reader.ReadError.TheVariants.{
 use Rattle.hol_syntax_grammar.specs.TermStates.{Parses}
 use Rattle.hol_syntax_grammar.specs.declared.steps.TermStep.{TermStep}
 use Rattle.hol_tactic_grammar.specs.Tokens.{AreTokens}
-use Rattle.hol_script_commands.specs.Reading.{is_quote, HasNoQuote, kernel_rule_of, equality_rule_of, connective_rule_of, quantifier_rule_of, rule_of_word, IsNameOf, TakesOnlyNames}
+use Rattle.hol_script_commands.specs.Reading.{is_quote, HasNoQuote, IsNameOf, TakesOnlyNames}
 use Rattle.hol_script_commands.specs.Reading.{ParsesQuote, TakesQuotes, ParsesOnlyQuote, ParsesArguments, ParsesRule}
 use Rattle.hol_script_commands.specs.Views.{IsTerm}
 use Rattle.hol_script_commands.specs.declared.command.Rule.{Rule}
@@ -292,45 +293,20 @@ no-name-at (first ∷ tokens) (suc at) default within none (name ∷ names) same
 abbrev pub names_of : List (Bor (List ℕ)) → List Token
 names_of names = map Name (map (λ name. name.now) names)
 
--- ---- words
-
-abbrev word_of : RuleName → List ℕ
-word_of rule = (form_of rule).word
-
-pub word-rule : (rule : RuleName) → rule_of_word (form_of rule).word ≡ Some rule
-word-rule rule = search rules
-
--- where some words are tried first
-pub first-tried : {Kind : Type 0} (spelling : Kind → List ℕ) (word : List ℕ) (kind : Kind) (tried others : Option Kind) → ((here : Kind) → tried ≡ Some here → word ≡ spelling here)
-    → option_or tried others ≡ Some kind → (others ≡ Some kind → word ≡ spelling kind) → word ≡ spelling kind
-first-tried spelling word kind (Some here) others spells found later = (let same : here ≡ kind = cc in spells here refl ∙ ap spelling same)
-first-tried spelling word kind None others spells found later = later found
-
-kernel-rule-word : (word : List ℕ) (rule : RuleName) → kernel_rule_of word ≡ Some rule → word ≡ (form_of rule).word
-kernel-rule-word word rule found = search (rules, found, bytes_eq-Decides)
-
-equality-rule-word : (word : List ℕ) (rule : RuleName) → equality_rule_of word ≡ Some rule → word ≡ (form_of rule).word
-equality-rule-word word rule found = search (rules, found, bytes_eq-Decides)
-
-connective-rule-word : (word : List ℕ) (rule : RuleName) → connective_rule_of word ≡ Some rule → word ≡ (form_of rule).word
-connective-rule-word word rule found = search (rules, found, bytes_eq-Decides)
-
-quantifier-rule-word : (word : List ℕ) (rule : RuleName) → quantifier_rule_of word ≡ Some rule → word ≡ (form_of rule).word
-quantifier-rule-word word rule found = search (rules, found, bytes_eq-Decides)
-
-rule-word : (word : List ℕ) (rule : RuleName) → rule_of_word word ≡ Some rule → word ≡ (form_of rule).word
-rule-word word rule found =
-    first-tried word_of word rule (kernel_rule_of word) _ (kernel-rule-word word) found (λ found.
-    first-tried word_of word rule (equality_rule_of word) _ (equality-rule-word word) found (λ found.
-    first-tried word_of word rule (connective_rule_of word) _ (connective-rule-word word) found (quantifier-rule-word word rule)))
-
 -- ---- rules
+
+-- every rule, as words are looked up among them
+abbrev every_rule : List RuleName
+every_rule =
+    names.Refl ∷ names.Trans ∷ names.MkComb ∷ names.Abs ∷ names.Beta ∷ names.Assume ∷ names.EqMp ∷ names.DeductAntisym ∷ names.EtaAxiom ∷ names.SelectAxiom ∷ names.Sym ∷ names.AddAssum ∷
+    names.ProveHyp ∷ names.EqtIntro ∷ names.EqtElim ∷ names.BetaConv ∷ names.Conj ∷ names.Conjunct1 ∷ names.Conjunct2 ∷ names.Disch ∷ names.Undisch ∷ names.Mp ∷ names.Spec ∷ names.Gen ∷
+    names.Disj1 ∷ names.Disj2 ∷ names.DisjCases ∷ names.Contr ∷ names.NotIntro ∷ names.NotElim ∷ names.Exists ∷ names.Choose ∷ []
 
 -- what holds of each rule of this name holds of each rule of its word
 named-tree : (fact : RuleTree → Type 0) (rule : RuleName) → ((trees : List TermTree) (names : List (List ℕ)) → fact (by_name rule trees names)) → (tree : RuleTree)
     → rule_word tree ≡ (form_of rule).word → fact tree
 named-tree fact rule named (by_name other trees names) worded =
-    let found : Some other ≡ Some rule = sym (word-rule other) ∙ ap rule_of_word worded ∙ word-rule rule in
+    let found : Some other ≡ Some rule = sym (own-word other) ∙ ap (λ (word : List ℕ). find (has_word word) every_rule) worded ∙ own-word rule in
     let same : rule ≡ other = cc in
     subst (λ (it : RuleName). fact (by_name it trees names)) same (named trees names)
 named-tree fact rule named (by_inst pairs a) worded = absurd (search (rules, worded))
@@ -349,9 +325,15 @@ inst_type-tree fact inst_type (by_inst pairs a) worded = absurd (search (rules, 
 inst_type-tree fact inst_type (by_inst_type pairs a) worded = inst_type pairs a
 
 -- a word that names a rule
-pub rule-worded : (result : Result Rule ReadError) (word : List ℕ) (rule : RuleName) (tokens : List Token) → rule_of_word word ≡ Some rule → ParsesArguments result (form_of rule).word tokens
+pub rule-worded : (result : Result Rule ReadError) (word : List ℕ) (rule : RuleName) (tokens : List Token) → IsRuleOf word (Some rule) → ParsesArguments result (form_of rule).word tokens
     → ParsesArguments result word tokens
-rule-worded result word rule tokens known parsed = subst (λ (spelled : List ℕ). ParsesArguments result spelled tokens) (sym (rule-word word rule known)) parsed
+rule-worded result word rule tokens known parsed = subst (λ (spelled : List ℕ). ParsesArguments result spelled tokens) (sym ((known rule).0 refl)) parsed
+
+-- a word that names no rule
+pub no-rule-worded : (word : List ℕ) (tokens : List Token) → IsRuleOf word None → word ≢ codes "INST" → word ≢ codes "INST_TYPE" → ParsesArguments (Err Syntax) word tokens
+no-rule-worded word tokens unknown no_inst no_inst_type (by_name rule trees names) grammatical worded = let found : None ≡ Some rule = (unknown rule).1 (sym worded) in cc
+no-rule-worded word tokens unknown no_inst no_inst_type (by_inst pairs a) grammatical worded = absurd (no_inst (sym worded))
+no-rule-worded word tokens unknown no_inst no_inst_type (by_inst_type pairs a) grammatical worded = absurd (no_inst_type (sym worded))
 
 -- a refusal of the names is one of the arguments
 pub names-refused : (error : ReadError) (rule : RuleName) (tokens rest : List Token) (trees : List TermTree) → length trees ≡ (form_of rule).terms → AreQuotable trees

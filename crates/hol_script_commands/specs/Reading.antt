@@ -5,9 +5,6 @@ use Rattle.std.specs.Str.{bytes_eq}
 use Rattle.std.proofs.Common.{Vec, Bor, Global}
 use Rattle.hol_model.specs.declared.symbol.Symbol.{Symbol}
 use Rattle.hol_model.specs.declared.symbol.Symbol.TheVariants.{Backquote, Colon, Equal}
-use Rattle.hol_model_rules.specs.declared.rule_name.RuleName.{RuleName}
-use Rattle.hol_model_rules.specs.declared.rule_name.RuleName.TheVariants.{Refl, Trans, MkComb, Abs, Beta, Assume, EqMp, DeductAntisym, EtaAxiom, SelectAxiom, Sym, AddAssum, ProveHyp, EqtIntro, EqtElim, BetaConv}
-use Rattle.hol_model_rules.specs.declared.rule_name.RuleName.TheVariants.{Conj, Conjunct1, Conjunct2, Disch, Undisch, Mp, Spec, Gen, Disj1, Disj2, DisjCases, Contr, NotIntro, NotElim, Exists, Choose}
 use Rattle.hol_model.specs.Texts.Token.{Token, Name, Number, Mark}
 use Rattle.hol_model.specs.Texts.Lexing.{numeral_value}
 use Rattle.hol_model.specs.Texts.TypeGrammar.{TypeTree, type_tokens, type_steps}
@@ -114,58 +111,6 @@ ParsesConversion (Ok x) tokens =
     × (conversion_of x.0 ≡ conversion_of_unit unit) × (flat_steps_of x.1.items ≡ flat_steps (term_steps tree))
 ParsesConversion (Err Memory) tokens = Unit {0}
 ParsesConversion (Err Syntax) tokens = (unit : ConversionUnit) (tree : TermTree) → IsConversionUnit unit → IsQuotable tree → tokens ≢ unit_tokens unit (quote_tokens tree [])
-
--- the primitive rule or axiom that a word names
-abbrev pub kernel_rule_of : List ℕ → Option RuleName
-kernel_rule_of word =
-    if bytes_eq word (codes "REFL") then Some Refl else
-    (if bytes_eq word (codes "TRANS") then Some Trans else
-    (if bytes_eq word (codes "MK_COMB") then Some MkComb else
-    (if bytes_eq word (codes "ABS") then Some Abs else
-    (if bytes_eq word (codes "BETA") then Some Beta else
-    (if bytes_eq word (codes "ASSUME") then Some Assume else
-    (if bytes_eq word (codes "EQ_MP") then Some EqMp else
-    (if bytes_eq word (codes "DEDUCT_ANTISYM_RULE") then Some DeductAntisym else
-    (if bytes_eq word (codes "ETA") then Some EtaAxiom else
-    (if bytes_eq word (codes "SELECT") then Some SelectAxiom else None)))))))))
-
--- the rule of equations or of hypotheses that a word names
-abbrev pub equality_rule_of : List ℕ → Option RuleName
-equality_rule_of word =
-    if bytes_eq word (codes "SYM") then Some Sym else
-    (if bytes_eq word (codes "BETA_CONV") then Some BetaConv else
-    (if bytes_eq word (codes "ADD_ASSUM") then Some AddAssum else
-    (if bytes_eq word (codes "PROVE_HYP") then Some ProveHyp else
-    (if bytes_eq word (codes "EQT_INTRO") then Some EqtIntro else
-    (if bytes_eq word (codes "EQT_ELIM") then Some EqtElim else None)))))
-
--- the rule of conjunction, implication or negation that a word names
-abbrev pub connective_rule_of : List ℕ → Option RuleName
-connective_rule_of word =
-    if bytes_eq word (codes "CONJ") then Some Conj else
-    (if bytes_eq word (codes "CONJUNCT1") then Some Conjunct1 else
-    (if bytes_eq word (codes "CONJUNCT2") then Some Conjunct2 else
-    (if bytes_eq word (codes "DISCH") then Some Disch else
-    (if bytes_eq word (codes "UNDISCH") then Some Undisch else
-    (if bytes_eq word (codes "MP") then Some Mp else
-    (if bytes_eq word (codes "NOT_INTRO") then Some NotIntro else
-    (if bytes_eq word (codes "NOT_ELIM") then Some NotElim else None)))))))
-
--- the rule of quantifiers, disjunction or falsity that a word names
-abbrev pub quantifier_rule_of : List ℕ → Option RuleName
-quantifier_rule_of word =
-    if bytes_eq word (codes "SPEC") then Some Spec else
-    (if bytes_eq word (codes "GEN") then Some Gen else
-    (if bytes_eq word (codes "EXISTS") then Some Exists else
-    (if bytes_eq word (codes "CHOOSE") then Some Choose else
-    (if bytes_eq word (codes "DISJ1") then Some Disj1 else
-    (if bytes_eq word (codes "DISJ2") then Some Disj2 else
-    (if bytes_eq word (codes "DISJ_CASES") then Some DisjCases else
-    (if bytes_eq word (codes "CONTR") then Some Contr else None)))))))
-
--- the rule that a word names
-abbrev pub rule_of_word : List ℕ → Option RuleName
-rule_of_word word = option_or (kernel_rule_of word) (option_or (equality_rule_of word) (option_or (connective_rule_of word) (quantifier_rule_of word)))
 
 -- what a rule of this word has behind it
 abbrev pub ParsesArguments : Result Rule ReadError → List ℕ → List Token → Type 0

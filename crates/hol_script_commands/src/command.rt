@@ -11,7 +11,7 @@ use crate::pairs::{
     QuotedPair, TermPair, TypePair, parse_term_pairs, parse_type_pairs, take_pairs,
 };
 use crate::quotes::{parse_conversion_and_quote, parse_only_quote};
-use crate::rules::{parse_named, rule_name};
+use crate::rules::parse_named;
 use crate::tokens::{only_name, take_mark, take_name};
 use hol_model::Symbol;
 use hol_model_rules::RuleName;
@@ -126,7 +126,7 @@ fn parse_arguments<'a>(
     if word == "INST_TYPE" {
         return parse_inst_type(alloc, tokens);
     }
-    match rule_name(word) {
+    match RuleName::of_word(word) {
         Some(rule) => parse_named(alloc, rule, tokens),
         None => Err(ReadError::Syntax),
     }
