@@ -4,7 +4,7 @@ mod Bits
 pub mod Rows
 mod RowWords
 mod FalsityLemmas
-mod FewTerms
+mod AddedAtoms
 mod Places
 mod PartsLemmas
 mod WordLemmas

@@ -3,4 +3,4 @@ pub mod Forms
 pub mod Words
 pub mod NumberedFormulas
 pub mod PutParts
-pub mod FewTerms
+pub mod AddedAtoms

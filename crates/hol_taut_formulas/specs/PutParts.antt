@@ -1,10 +1,13 @@
 -- Parts of formulas that are put behind those that they are made of.
 use Rattle.std.specs.Prelude.{◌≡◌, ◌≤◌, ◌<◌, ◌+◌, ◌⊎◌, ℕ, List, [], ◌∷◌, ◌++◌, Bool, Some, length, slice_get}
 use Rattle.hol_model.specs.Terms.NamedTerm.{NamedTerm}
-use Rattle.hol_model.specs.Propositional.Tautologies.{value_in, is_true_in}
+use Rattle.hol_model.specs.Propositional.Propositions.{proposition, atom_places, with_new_terms}
+use Rattle.hol_model.specs.Propositional.Tautologies.{is_true_in}
+use Rattle.hol_taut_formulas.specs.declared.numbered.Numbered.{Numbered}
 use Rattle.hol_taut_formulas.specs.declared.numbered.Part.{Part}
 use Rattle.hol_taut_formulas.specs.declared.numbered.Part.TheVariants.{Atom, Constantly, Negated, Connected}
-use Rattle.hol_taut_formulas.specs.NumberedFormulas.{value_at, truth_of_part, truth_at}
+use Rattle.hol_taut_formulas.specs.NumberedFormulas.{value_at, truth_at, is_true_at}
+use Rattle.hol_taut_formulas.specs.AddedAtoms.{AreAdded}
 
 -- a part is made of some of the first parts, so many of them
 abbrev pub IsMadeOf : ℕ → Part → Type 0
@@ -17,11 +20,6 @@ IsMadeOf n (Connected connective left right) = (left < n) × (right < n)
 abbrev pub AreOrdered : ℕ → List Part → Type 0
 AreOrdered n [] = Unit {0}
 AreOrdered n (part ∷ parts) = IsMadeOf n part × AreOrdered (n + 1) parts
-
--- an atom, or what is false since it is none of the atoms
-pub record IsAtomOf (atoms : List NamedTerm) (term : NamedTerm) (part : Part) : Type 0 where
-  pub alone : (n : ℕ) → IsMadeOf n part
-  pub meaning : (row before : List Bool) → truth_of_part (value_at row) before part ≡ value_in atoms row term
 
 -- a part was put at the end, unless it was there, and stands at this place
 pub record IsPartPut (part : Part) (old new : List Part) (place : ℕ) : Type 0 where
@@ -36,6 +34,12 @@ pub record IsPut (is_true : List Bool → Bool) (old new : List Part) (place : �
   pub within : place < length new
   pub meaning : (row : List Bool) → truth_at (value_at row) new place ≡ is_true row
 
--- the parts of a formula were put behind parts in order
-abbrev pub IsFormulaPut : List NamedTerm → NamedTerm → List Part → List Part → ℕ → Type 0
-IsFormulaPut atoms term old new place = AreOrdered 0 old → IsPut (is_true_in atoms term) old new place
+-- the atoms of a formula were put behind atoms, and its parts behind parts in order, whatever atoms are put later
+pub record IsFormulaPut (term : NamedTerm) (old new : List NamedTerm) (known parts : List Part) (place : ℕ) : Type 0 where
+  pub added : AreAdded (atom_places (proposition term)) old new
+  pub put : (later : List NamedTerm) → AreOrdered 0 known → IsPut (is_true_in (with_new_terms new later) term) known parts place
+
+-- the atoms of a formula were put behind atoms, and it is true in the same rows as its term
+pub record IsNumbered (term : NamedTerm) (old new : List NamedTerm) (formula : Numbered) : Type 0 where
+  pub added : AreAdded (atom_places (proposition term)) old new
+  pub meaning : (row : List Bool) → is_true_at row formula ≡ is_true_in new term row

@@ -1,15 +1,15 @@
 // The refusal of a formula that is no tautology.
-ghost use Rattle.std.specs.Prelude.{◌≡◌, get_or, length, not, false, IfOk, IfErr};
+ghost use Rattle.std.specs.Prelude.{◌≡◌, get_or, not, false, IfOk, IfErr};
 ghost use Rattle.std.specs.List.{find};
 ghost use Rattle.std.specs.Option.{option_map};
 ghost use Rattle.hol_model.specs.declared.fault.Fault.TheVariants.{Memory};
 ghost use Rattle.hol_model.specs.Kernel.Outcome.{AnswersSuch};
 ghost use Rattle.hol_model.specs.Propositional.Propositions.{atoms_of};
-ghost use Rattle.hol_model.specs.Propositional.Tautologies.{falsity_of, is_true_in, row_in_full, rows};
+ghost use Rattle.hol_model.specs.Propositional.Tautologies.{falsity_of, row_in_full, rows};
+ghost use Rattle.hol_taut_formulas.specs.NumberedFormulas.{is_true_at};
 
 use crate::decision::first_false;
-use crate::numbered::numbered_formula;
-use crate::occurrences::add_few_atoms;
+use crate::numbered::{Numbered, numbered_formula};
 use hol_model::{ATOMS_LIMIT, Fault};
 use hol_terms::Term;
 use std::alloc::Global;
@@ -20,10 +20,8 @@ pub fn atoms_of_tautology(alloc: Global, term: &Term) -> Result<Vec<Term>, Fault
     ensures { AnswersSuch result (falsity_of term.now) (λ atoms. atoms.items ≡ atoms_of term.now) }
 {
     let mut atoms = Vec::new(alloc);
-    if !add_few_atoms(alloc, term, &mut atoms)? {
-        return Err(Fault::TooManyAtoms);
-    }
-    match first_falsity(alloc, term, &atoms)? {
+    let formula = numbered_formula(alloc, term, &mut atoms)?;
+    match first_falsity(alloc, &formula, atoms.len())? {
         Some(row) => Err(Fault::NotTautology {
             atoms: atoms.len(),
             row: in_full(&row),
@@ -32,13 +30,19 @@ pub fn atoms_of_tautology(alloc: Global, term: &Term) -> Result<Vec<Term>, Fault
     }
 }
 
-// The first row of values of these atoms in which a formula is false.
-fn first_falsity(alloc: Global, term: &Term, atoms: &[Term]) -> Result<Option<Vec<bool>>, Fault>
-    ensures ok { IfOk result (λ found. option_map (λ values. values.items) found ≡ find (λ row. not (is_true_in atoms.now term.now row)) (rows (length atoms.now))) }
+// The first row of so many values in which a formula is false.
+fn first_falsity(
+    alloc: Global,
+    formula: &Numbered,
+    count: usize,
+) -> Result<Option<Vec<bool>>, Fault>
+    ensures ok { IfOk result (λ found. option_map (λ values. values.items) found ≡ find (λ row. not (is_true_at row formula.now)) (rows count)) }
     ensures err { IfErr result (λ fault. fault ≡ Memory) }
 {
-    let formula = numbered_formula(alloc, term, atoms)?;
-    first_false(alloc, &formula, atoms.len(), &[])
+    if formula.holds_of_itself() {
+        return Ok(None);
+    }
+    first_false(alloc, formula, count, &[])
 }
 
 // The values of a row, and then `false`.

@@ -1,4 +1,4 @@
-//! Formulas of the connectives over atoms: their forms, their atoms, and the first row of values in which one is false.
+//! Formulas of the connectives over atoms: their forms, their parts, their atoms, and the first row of values in which one is false.
 #![tactic(auto)]
 
 mod connective;
@@ -7,9 +7,12 @@ mod falsity_test;
 mod form;
 mod numbered;
 mod occurrences;
+mod subformulas;
 mod values;
 
 pub use connective::Connective;
 pub use falsity_test::atoms_of_tautology;
 pub use form::{Form, form_of};
+pub use numbered::Part;
 pub use occurrences::atoms;
+pub use subformulas::{Subformula, Subformulas};

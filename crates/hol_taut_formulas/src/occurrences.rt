@@ -1,16 +1,14 @@
 // The atoms of a formula.
-ghost use Rattle.std.specs.Prelude.{◌≡◌, ◌≤◌, [], ◌∷◌, length, IfOk, IfErr, OnOk};
+ghost use Rattle.std.specs.Prelude.{◌≡◌, IfErr, OnOk};
 ghost use Rattle.std.specs.List.{list_any};
 ghost use Rattle.hol_model.specs.declared.fault.Fault.TheVariants.{Memory};
 ghost use Rattle.hol_model.specs.Kernel.Outcome.{Answers};
 ghost use Rattle.hol_model.specs.Propositional.Propositions.{proposition, atom_places, atoms_outcome, terms_in, with_new_terms};
 ghost use Rattle.hol_model.specs.Kernel.Theorem.{are_alpha_equivalent};
-ghost use Rattle.hol_model.specs.declared.limits.TheConstants.{ATOMS_LIMIT};
-ghost use Rattle.hol_taut_formulas.specs.FewTerms.{AddsFew};
 
 use crate::form::{Form, form_of};
 use hol_alpha::aconv;
-use hol_model::{ATOMS_LIMIT, Fault};
+use hol_model::Fault;
 use hol_terms::Term;
 use std::alloc::Global;
 
@@ -49,45 +47,6 @@ fn add_atoms(alloc: Global, term: &Term, seen: &mut Vec<Term>) -> Result<(), Fau
             add_atoms(alloc, right, seen)
         }
     }
-}
-
-/// Puts the atoms of a formula that are not yet in a list at its end, as long as there are not too many. Answers whether
-/// there are not; where there are, no more of them are looked for.
-#[tactic(auto, using(crate::proofs::FewTerms::few_none))]
-pub(crate) fn add_few_atoms(alloc: Global, term: &Term, seen: &mut Vec<Term>) -> Result<bool, Fault>
-    requires { length seen.old.items ≤ ATOMS_LIMIT }
-    ensures ok { IfOk result (λ few. AddsFew few (atom_places (proposition term.now)) seen.old.items seen.new.items) }
-    ensures err { IfErr result (λ fault. fault ≡ Memory) }
-{
-    match form_of(term) {
-        Form::Atom => add_atom(alloc, term, seen),
-        Form::Constantly(_) => Ok(true),
-        Form::Negated(part) => add_few_atoms(alloc, part, seen),
-        Form::Connected(_, left, right) => {
-            let few = add_few_atoms(alloc, left, seen)?;
-            if !few {
-                return Ok(false);
-            }
-            add_few_atoms(alloc, right, seen)
-        }
-    }
-}
-
-// Puts an atom that is not yet in a list at its end, where there are not too many. Answers whether there are not.
-#[tactic(auto, using(crate::proofs::FewTerms::few_seen, crate::proofs::FewTerms::few_more, crate::proofs::FewTerms::many_more))]
-fn add_atom(alloc: Global, atom: &Term, seen: &mut Vec<Term>) -> Result<bool, Fault>
-    requires { length seen.old.items ≤ ATOMS_LIMIT }
-    ensures ok { IfOk result (λ few. AddsFew few (atom.now ∷ []) seen.old.items seen.new.items) }
-    ensures err { IfErr result (λ fault. fault ≡ Memory) }
-{
-    if is_among(atom, seen) {
-        return Ok(true);
-    }
-    if seen.len() >= ATOMS_LIMIT {
-        return Ok(false);
-    }
-    seen.push(atom.copy(alloc)?)?;
-    Ok(true)
 }
 
 // Whether the term is one of a list, up to the names of bound variables.

@@ -5,13 +5,14 @@ use crate::refutations::settle;
 use crate::steps::Step;
 use crate::tables::constants;
 use hol_model::Fault;
+use hol_taut_formulas::Subformulas;
 use hol_terms::Term;
 use std::alloc::Global;
 
 /// A proof as a list of steps, the last of which is the formula.
 #[derive(Drop)]
 pub struct Plan {
-    terms: Vec<Term>,
+    formulas: Subformulas,
     steps: Vec<Step>,
 }
 
@@ -23,7 +24,10 @@ impl Plan {
 
     /// A part of the formula, by its number.
     pub fn part(&self, number: usize) -> Option<&Term> {
-        self.terms.get(number)
+        match self.formulas.get(number) {
+            Some(formula) => Some(&formula.term),
+            None => None,
+        }
     }
 }
 
@@ -120,18 +124,20 @@ fn settle_all(planner: &mut Planner, alloc: Global) -> Result<(), Fault> {
     Ok(())
 }
 
+// The steps that show a part, without those that are not taken.
+fn steps_to(planner: &mut Planner, alloc: Global, at: usize) -> Result<Vec<Step>, Fault> {
+    settle_all(planner, alloc)?;
+    let shown = planner.show(at)?;
+    only_used(alloc, planner.steps(), shown.step)
+}
+
 /// A proof of a tautology. A part that is the same whatever the atoms are is shown by itself, over its own atoms.
 /// Refused: TooManyAtoms; TooLarge where it takes too many steps, or parts are looked at too often; BadShape where the formula is no
 /// tautology; Memory.
 pub fn planned(alloc: Global, term: &Term) -> Result<Plan, Fault> {
-    let parts = Parts::of(alloc, term)?;
-    let terms = parts.terms(alloc)?;
+    let formulas = Subformulas::of(alloc, term)?;
+    let parts = Parts::of(alloc, &formulas)?;
     let mut planner = Planner::new(alloc, parts)?;
-    settle_all(&mut planner, alloc)?;
-    if terms.is_empty() {
-        return Err(Fault::BadShape);
-    }
-    let shown = planner.show(terms.len() - 1)?;
-    let steps = only_used(alloc, planner.steps(), shown.step)?;
-    Ok(Plan { terms, steps })
+    let steps = steps_to(&mut planner, alloc, formulas.whole())?;
+    Ok(Plan { formulas, steps })
 }

@@ -1,7 +1,8 @@
 // How parts of formulas are made.
+use hol_taut_formulas::{Connective, Part};
 
 /// How a part is made, by the numbers of the parts that it is made of.
-#[derive(Clone, Copy, PartialEq, Eq, Hash)]
+#[derive(Clone, Copy)]
 pub(crate) enum Shape {
     /// Not taken apart, the atom of this number.
     Atom(usize),
@@ -13,7 +14,27 @@ pub(crate) enum Shape {
     Iff(usize, usize),
 }
 
+// How a connective's formula is made.
+fn connected(connective: Connective, left: usize, right: usize) -> Shape {
+    match connective {
+        Connective::And => Shape::And(left, right),
+        Connective::Or => Shape::Or(left, right),
+        Connective::Implies => Shape::Implies(left, right),
+        Connective::Iff => Shape::Iff(left, right),
+    }
+}
+
 impl Shape {
+    /// That of a part.
+    pub(crate) fn of(part: Part) -> Shape {
+        match part {
+            Part::Atom(atom) => Shape::Atom(atom),
+            Part::Constantly(value) => Shape::Constantly(value),
+            Part::Negated(part) => Shape::Not(part),
+            Part::Connected(connective, left, right) => connected(connective, left, right),
+        }
+    }
+
     /// Its sides: a negation's part stands for both.
     pub(crate) fn sides(self) -> Option<(usize, usize)> {
         match self {

@@ -1,4 +1,4 @@
-use Rattle.hol_taut_chains.proofs.shared.Parts.«+generalized».Given as goal
+use Rattle.hol_taut_chains.proofs.shared.+generalized.Given as goal
 
 abbrev pub decreases-generalized : goal.decreases-generalized
 decreases-generalized l = l.at
