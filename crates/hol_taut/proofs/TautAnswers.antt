@@ -63,6 +63,10 @@ pub past-answers : (theory : Theory) (term : NamedTerm) (fault : Fault) → IsPa
 past-answers theory term fault passed none past =
     subst (λ (o : Result Stated Fault). AnswersSmall (Err fault) (image term) o) (sym (tautology-stated theory term passed none)) (past (is_small (image term)) (small-room (image term)))
 
+-- the theorem is of the term, whether there is room or not
+pub whatever-room : (theorem : Theorem) (term : Nameless) → ((room : Bool) → IsSmallIf room term → Proves theorem [] term) → Proves theorem [] term
+whatever-room theorem term proves = proves false (λ is. cc)
+
 -- the theorem with the formula's own names
 pub named-answers : (theory : Theory) (term : NamedTerm) (theorem : Theorem) (result : Result Recorded Fault) → IsPassed theory term → falsity_of term ≡ None
     → ((room : Bool) → IsSmallIf room (image term) → Proves theorem [] (image term)) → IfOk result (λ made. made.theorem.conclusion ≡ term)
@@ -72,7 +76,7 @@ named-answers theory term theorem result passed none proves names derives =
     subst (λ (o : Result Stated Fault). AnswersSmall (theorem_in result) (image term) o) (sym (tautology-stated theory term passed none)) (go result names (derives [] shows))
   where
     proved : Proves theorem [] (image term)
-    proved = proves false (λ is. cc)
+    proved = whatever-room theorem (image term) proves
 
     shows : Shows theorem [] (image term)
     shows = record { same_set = record { to = λ x m. absurd m; back = λ x m. proved.within x m }; concludes = proved.concludes }

@@ -5,5 +5,6 @@ pub mod Proved
 pub mod Shown
 pub mod Refuted
 pub mod Answers
+pub mod Denials
 pub mod Steps
 pub mod Next

@@ -64,6 +64,23 @@ fn rest(recorder: &mut Recorder, alloc: Global, laws: &Laws, shortest: &Rec) -> 
     }
 }
 
+// From `p <=> q` and `q`, which was made, `p`.
+#[tactic(auto, using(crate::proofs::LawLemmas::in_a_row))]
+fn from_equal(
+    recorder: &mut Recorder,
+    alloc: Global,
+    equation: &Rec,
+    made: Result<Rec, Fault>,
+) -> Result<Rec, Fault>
+    requires equation { IsMade recorder.old equation.now }
+    requires made { IfOk made (IsHeld recorder.old) }
+    ensures continues { Continues recorder.old recorder.new result }
+{
+    let made = made?;
+    let back = sym(recorder, alloc, equation)?;
+    eq_mp(recorder, alloc, &back, &made)
+}
+
 // The formula, from its equivalence with what is left of it.
 #[tactic(auto, using(crate::proofs::LawLemmas::in_a_row))]
 fn from_rest(
@@ -76,9 +93,8 @@ fn from_rest(
     requires shortest { IsMade recorder.old shortest.now }
     ensures continues { Continues recorder.old recorder.new result }
 {
-    let rest = rest(recorder, alloc, laws, shortest)?;
-    let back = sym(recorder, alloc, shortest)?;
-    eq_mp(recorder, alloc, &back, &rest)
+    let rest = rest(recorder, alloc, laws, shortest);
+    from_equal(recorder, alloc, shortest, rest)
 }
 
 // A formula, by these laws.
@@ -171,9 +187,8 @@ fn from_positive(
     let Some((_, rest)) = sides_of(conclusion_of(recorder, positive)) else {
         return Err(Fault::BadShape);
     };
-    let made = by_normal_form(recorder, alloc, laws, rest)?;
-    let back = sym(recorder, alloc, positive)?;
-    eq_mp(recorder, alloc, &back, &made)
+    let made = by_normal_form(recorder, alloc, laws, rest);
+    from_equal(recorder, alloc, positive, made)
 }
 
 // A formula, from what it is equal to without negated parts of chains.

@@ -6,6 +6,7 @@
 
 mod chain_proofs;
 mod denial;
+mod denied;
 mod facts;
 mod general;
 mod known;

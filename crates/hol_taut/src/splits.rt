@@ -1,27 +1,22 @@
 // Tautologies by splits over their atoms.
-ghost use Rattle.std.specs.Prelude.{◌≡◌, []};
-ghost use Rattle.hol_model.specs.Terms.NamedTerm.{equation};
-ghost use Rattle.hol_model.specs.Logic.NamedLogic.{false_term};
+ghost use Rattle.std.specs.Prelude.{[]};
 ghost use Rattle.hol_model.specs.Terms.Nameless.{image};
-ghost use Rattle.hol_equal.specs.Formulas.{IsFormula};
 ghost use Rattle.hol_equal.specs.Room.{Room};
 ghost use Rattle.hol_equal.specs.Sequents.{Continues};
 ghost use Rattle.hol_taut_laws.specs.HasLaws.{HasLaws};
-ghost use Rattle.hol_model.specs.Propositional.Propositions.{proposition, atoms_of};
+ghost use Rattle.hol_taut.specs.Denials.{IsDenied};
 ghost use Rattle.hol_taut.specs.Proved.{ProvesIf};
-ghost use Rattle.hol_taut.specs.Refuted.{IsAlwaysTrue};
 ghost use Rattle.hol_taut.specs.Ways.{IsSmallIf};
 
 use crate::denial::denied_by;
+use crate::denied::{Denied, deny};
 use crate::facts::Facts;
 use crate::planned::by_planned_steps;
 use crate::refuted::refuted;
 use crate::steps::by_one;
-use hol_bool::{equivalence, falsity, pass_formula};
 use hol_equal::assume;
 use hol_journal::{Rec, Recorder};
 use hol_model::Fault;
-use hol_taut_formulas::atoms_of_tautology;
 use hol_taut_laws::{Law, Laws};
 use hol_terms::Term;
 use std::alloc::Global;
@@ -33,21 +28,24 @@ pub(crate) fn split(
     alloc: Global,
     laws: &Laws,
     term: &Term,
-    denial: &Term,
-    atoms: &[Term],
+    denied: &Denied,
 ) -> Result<Rec, Fault>
     requires laws { HasLaws recorder.old laws.now }
-    requires formula { IsFormula recorder.old.theory term.now }
-    requires always { IsAlwaysTrue (proposition term.now) }
-    requires denial { denial.now ≡ equation term.now false_term }
-    requires denies { IsFormula recorder.old.theory denial.now }
-    requires atoms { atoms.now ≡ atoms_of term.now }
+    requires denied { IsDenied recorder.old.theory term.now denied.now }
     ensures continues { Continues recorder.old recorder.new result }
     ensures proves { (room : Room) → IsSmallIf room (image term.now) → ProvesIf room result [] (image term.now) }
 {
-    let denied = assume(recorder, alloc, denial)?;
-    let absurd = refuted(recorder, alloc, laws, term, &denied, atoms, &Facts::Nothing)?;
-    let denied_denial = denied_by(recorder, alloc, laws, denial, &absurd)?;
+    let assumed = assume(recorder, alloc, &denied.denial)?;
+    let absurd = refuted(
+        recorder,
+        alloc,
+        laws,
+        term,
+        &assumed,
+        &denied.atoms,
+        &Facts::Nothing,
+    )?;
+    let denied_denial = denied_by(recorder, alloc, laws, &denied.denial, &absurd)?;
     by_one(
         recorder,
         alloc,
@@ -70,12 +68,8 @@ fn by_own_splits(
     requires laws { HasLaws recorder.old laws.now }
     ensures continues { Continues recorder.old recorder.new result }
 {
-    pass_formula(recorder, term)?;
-    let atoms = atoms_of_tautology(alloc, term)?;
-    recorder.theory_is_legal();
-    let falsity = falsity(alloc)?;
-    let denial = equivalence(alloc, term, &falsity)?;
-    split(recorder, alloc, laws, term, &denial, &atoms)
+    let denied = deny(recorder, alloc, laws, term)?;
+    split(recorder, alloc, laws, term, &denied)
 }
 
 /// A formula by a plan, or else by splits, where it is a tautology: what a longer proof takes on its way.

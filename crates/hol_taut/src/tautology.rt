@@ -1,47 +1,37 @@
 // Proofs of tautologies.
-ghost use Rattle.std.specs.Prelude.{◌≡◌, []};
-ghost use Rattle.hol_model.specs.Terms.NamedTerm.{equation};
-ghost use Rattle.hol_model.specs.Logic.NamedLogic.{false_term};
+ghost use Rattle.std.specs.Prelude.{[]};
 ghost use Rattle.hol_model.specs.Terms.Nameless.{image};
+ghost use Rattle.hol_model.specs.Propositional.Tautologies.{tautology_outcome};
 ghost use Rattle.hol_journal.specs.Journal.{theorem_in};
-ghost use Rattle.hol_equal.specs.Formulas.{IsFormula};
 ghost use Rattle.hol_equal.specs.Room.{Room};
 ghost use Rattle.hol_equal.specs.Sequents.{Continues};
 ghost use Rattle.hol_taut_laws.specs.HasLaws.{HasLaws};
 ghost use Rattle.hol_taut.specs.Answers.{AnswersSmall};
-ghost use Rattle.hol_model.specs.Propositional.Propositions.{proposition, atoms_of};
+ghost use Rattle.hol_taut.specs.Denials.{IsDenied};
 ghost use Rattle.hol_taut.specs.Proved.{ProvesIf};
-ghost use Rattle.hol_taut.specs.Refuted.{IsAlwaysTrue};
-ghost use Rattle.hol_model.specs.Propositional.Tautologies.{tautology_outcome};
 ghost use Rattle.hol_taut.specs.Ways.{IsSmallIf};
 
 use crate::chain_proofs::judged;
+use crate::denied::{Denied, deny};
 use crate::search::searched;
 use crate::splits::split;
-use hol_bool::{equivalence, falsity, pass_formula};
-use hol_equal::named;
+use hol_equal::named_same;
 use hol_journal::{Rec, Recorder};
 use hol_model::Fault;
-use hol_taut_formulas::atoms_of_tautology;
 use hol_taut_laws::Laws;
 use hol_terms::Term;
 use std::alloc::Global;
 
-/// A tautology, from its denial, which is handed in: by the search for its theorem, if that gives it, and else by splits.
-pub(crate) fn proved(
+// A tautology, from its denial, which is handed in: by the search for its theorem, if that gives it, and else by splits.
+fn proved(
     recorder: &mut Recorder,
     alloc: Global,
     laws: &Laws,
     term: &Term,
-    denial: &Term,
-    atoms: &[Term],
+    denied: &Denied,
 ) -> Result<Rec, Fault>
     requires laws { HasLaws recorder.old laws.now }
-    requires formula { IsFormula recorder.old.theory term.now }
-    requires always { IsAlwaysTrue (proposition term.now) }
-    requires denial { denial.now ≡ equation term.now false_term }
-    requires denies { IsFormula recorder.old.theory denial.now }
-    requires atoms { atoms.now ≡ atoms_of term.now }
+    requires denied { IsDenied recorder.old.theory term.now denied.now }
     ensures continues { Continues recorder.old recorder.new result }
     ensures proves { (room : Room) → IsSmallIf room (image term.now) → ProvesIf room result [] (image term.now) }
 {
@@ -49,7 +39,7 @@ pub(crate) fn proved(
     if let Some(answer) = judged(recorder, tried, term) {
         return answer;
     }
-    split(recorder, alloc, laws, term, denial, atoms)
+    split(recorder, alloc, laws, term, denied)
 }
 
 /// TAUT: a formula that is true in each row of values of its atoms. Refused where the term is not of type `bool`, where
@@ -68,11 +58,7 @@ pub fn taut(recorder: &mut Recorder, alloc: Global, laws: &Laws, term: &Term) ->
     ensures continues { Continues recorder.old recorder.new result }
     ensures outcome { AnswersSmall (theorem_in result) (image term.now) (tautology_outcome recorder.old.theory term.now) }
 {
-    pass_formula(recorder, term)?;
-    let atoms = atoms_of_tautology(alloc, term)?;
-    recorder.theory_is_legal();
-    let falsity = falsity(alloc)?;
-    let denial = equivalence(alloc, term, &falsity)?;
-    let made = proved(recorder, alloc, laws, term, &denial, &atoms)?;
-    named(recorder, alloc, term, &made)
+    let denied = deny(recorder, alloc, laws, term)?;
+    let made = proved(recorder, alloc, laws, term, &denied)?;
+    named_same(recorder, alloc, term, &made)
 }

@@ -1,4 +1,4 @@
-use Rattle.std.proofs.Common.{List, [], ◌∷◌, false, Err, sym, subst}
+use Rattle.std.proofs.Common.{List, [], ◌∷◌, false, Err, sym, ◌∙◌, subst}
 use Rattle.hol_model.specs.Terms.NamedTerm.{NamedTerm}
 use Rattle.hol_model.specs.Terms.Nameless.{Nameless, image}
 use Rattle.hol_bool.proofs.PreludeSteps.{still_formula}
@@ -10,21 +10,21 @@ use Rattle.hol_model.specs.Propositional.Propositions.{proposition}
 use Rattle.hol_taut.specs.Proved.{Proves}
 use Rattle.hol_taut.specs.Refuted.{AreTold, AreAllFormulas, AreAllSmall}
 use Rattle.hol_taut.proofs.RefutedLemmas.{assumed-proves, memory-past}
-use Rattle.hol_taut.proofs.AtomLemmas.{atoms-formulas, atoms-small, atoms-told}
+use Rattle.hol_taut.proofs.AtomLemmas.{atoms-formulas, atoms-small, atoms-told, accepted-true}
 use Rattle.hol_taut.proofs.TautologyLemmas.{denial-image, denial-fits, denied-fits, denied-leads}
 use Rattle.hol_equal.proofs.StepLemmas.{passed_on}
 use Rattle.hol_taut.proofs.splits.split.Goals as goal
 
-pub returns-in_err-denied-clause-continues : goal.returns-in_err-denied-clause-continues
-returns-in_err-denied-clause-continues c =
-    rw (passed_on c.from_residual.result c.in_err-denied.field-0.0 c.from_residual.ensures.1) (
-    c.in_err-denied.ensures.continues)
+pub returns-in_err-assumed-clause-continues : goal.returns-in_err-assumed-clause-continues
+returns-in_err-assumed-clause-continues c =
+    rw (passed_on c.from_residual.result c.in_err-assumed.field-0.0 c.from_residual.ensures.1) (
+    c.in_err-assumed.ensures.continues)
 
-pub returns-in_err-denied-clause-proves : goal.returns-in_err-denied-clause-proves
-returns-in_err-denied-clause-proves c =
-    rw (passed_on c.from_residual.result c.in_err-denied.field-0.0 c.from_residual.ensures.1) (
+pub returns-in_err-assumed-clause-proves : goal.returns-in_err-assumed-clause-proves
+returns-in_err-assumed-clause-proves c =
+    rw (passed_on c.from_residual.result c.in_err-assumed.field-0.0 c.from_residual.ensures.1) (
     λ room small.
-    memory-past c.in_err-denied.field-0.0 (image c.args.denial.now ∷ []) (image c.args.denial.now) room (c.in_err-denied.ensures.gives c.requires.denies.known))
+    memory-past c.in_err-assumed.field-0.0 (image c.args.denied.now.denial ∷ []) (image c.args.denied.now.denial) room (c.in_err-assumed.ensures.gives c.requires.denied.denies.known))
 
 pub refuted-requires-clause-laws : goal.refuted-requires-clause-laws
 refuted-requires-clause-laws c =
@@ -32,25 +32,25 @@ refuted-requires-clause-laws c =
 
 pub refuted-requires-clause-formula : goal.refuted-requires-clause-formula
 refuted-requires-clause-formula c =
-    still_formula c.args.recorder.now c.assume.new.recorder c.assume.result c.args.term.now c.assume.ensures.continues c.requires.formula
+    still_formula c.args.recorder.now c.assume.new.recorder c.assume.result c.args.term.now c.assume.ensures.continues c.requires.denied.passed.formula
 
 pub refuted-requires-clause-always : goal.refuted-requires-clause-always
 refuted-requires-clause-always c =
-    c.requires.always
+    accepted-true c.args.term.now c.requires.denied.accepted
 
 pub refuted-requires-clause-denied : goal.refuted-requires-clause-denied
 refuted-requires-clause-denied c =
-    c.in_ok-denied.ensures.continues.held
+    c.in_ok-assumed.ensures.continues.held
 
 pub refuted-requires-clause-atoms : goal.refuted-requires-clause-atoms
 refuted-requires-clause-atoms c =
-    subst (λ (l : List NamedTerm). AreAllFormulas c.assume.new.recorder.theory l) (sym c.requires.atoms)
+    subst (λ (l : List NamedTerm). AreAllFormulas c.assume.new.recorder.theory l) (sym (c.deref.ensures.value ∙ c.requires.denied.atoms))
     (atoms-formulas c.assume.new.recorder.theory c.args.term.now
-    (still_formula c.args.recorder.now c.assume.new.recorder c.assume.result c.args.term.now c.assume.ensures.continues c.requires.formula))
+    (still_formula c.args.recorder.now c.assume.new.recorder c.assume.result c.args.term.now c.assume.ensures.continues c.requires.denied.passed.formula))
 
 pub refuted-requires-clause-told : goal.refuted-requires-clause-told
 refuted-requires-clause-told c =
-    subst (λ (l : List NamedTerm). AreTold Nothing l (proposition c.args.term.now)) (sym c.requires.atoms) (atoms-told c.args.term.now)
+    subst (λ (l : List NamedTerm). AreTold Nothing l (proposition c.args.term.now)) (sym (c.deref.ensures.value ∙ c.requires.denied.atoms)) (atoms-told c.args.term.now)
 
 pub refuted-requires-clause-held : goal.refuted-requires-clause-held
 refuted-requires-clause-held c =
@@ -65,11 +65,11 @@ pub returns-in_err-absurd-clause-proves : goal.returns-in_err-absurd-clause-prov
 returns-in_err-absurd-clause-proves c =
     rw (passed_on c.from_residual-in_err-absurd.result c.in_err-absurd.field-0.0 c.from_residual-in_err-absurd.ensures.1) (
     λ room small.
-    c.in_err-absurd.ensures.proves (image c.args.denial.now ∷ []) room
-    (subst (λ (t : Nameless). Proves c.in_ok-denied.denied.theorem (image c.args.denial.now ∷ []) t)
-    (denial-image c.args.recorder.now.theory c.args.term.now c.args.denial.now c.requires.formula c.requires.denial)
-    (assumed-proves c.in_ok-denied.denied (image c.args.denial.now) [] (c.in_ok-denied.ensures.gives c.requires.denies.known))) tt small
-    (subst (λ (l : List NamedTerm). AreAllSmall room l) (sym c.requires.atoms) (atoms-small room c.args.term.now small)))
+    c.in_err-absurd.ensures.proves (image c.args.denied.now.denial ∷ []) room
+    (subst (λ (t : Nameless). Proves c.in_ok-assumed.assumed.theorem (image c.args.denied.now.denial ∷ []) t)
+    (denial-image c.args.recorder.now.theory c.args.term.now c.args.denied.now.denial c.requires.denied.passed.formula c.requires.denied.denial)
+    (assumed-proves c.in_ok-assumed.assumed (image c.args.denied.now.denial) [] (c.in_ok-assumed.ensures.gives c.requires.denied.denies.known))) tt small
+    (subst (λ (l : List NamedTerm). AreAllSmall room l) (sym (c.deref.ensures.value ∙ c.requires.denied.atoms)) (atoms-small room c.args.term.now small)))
 
 pub denied_by-requires-clause-laws : goal.denied_by-requires-clause-laws
 denied_by-requires-clause-laws c =
@@ -78,8 +78,8 @@ denied_by-requires-clause-laws c =
 
 pub denied_by-requires-clause-formula : goal.denied_by-requires-clause-formula
 denied_by-requires-clause-formula c =
-    still_formula c.args.recorder.now c.refuted.new.recorder c.refuted.result c.args.denial.now
-    (continues-twice c.args.recorder.now c.assume.new.recorder c.refuted.new.recorder c.assume.result c.refuted.result c.assume.ensures.continues c.refuted.ensures.continues) c.requires.denies
+    still_formula c.args.recorder.now c.refuted.new.recorder c.refuted.result c.args.denied.now.denial
+    (continues-twice c.args.recorder.now c.assume.new.recorder c.refuted.new.recorder c.assume.result c.refuted.result c.assume.ensures.continues c.refuted.ensures.continues) c.requires.denied.denies
 
 pub denied_by-requires-clause-absurd : goal.denied_by-requires-clause-absurd
 denied_by-requires-clause-absurd c =
@@ -96,14 +96,14 @@ pub returns-in_err-denied_denial-clause-proves : goal.returns-in_err-denied_deni
 returns-in_err-denied_denial-clause-proves c =
     rw (passed_on c.from_residual-in_err-denied_denial.result c.in_err-denied_denial.field-0.0 c.from_residual-in_err-denied_denial.ensures.1) (
     λ room small.
-    c.in_err-denied_denial.ensures.proves [] room (denial-fits room (image c.args.term.now) (image c.args.denial.now)
-    (denial-image c.args.recorder.now.theory c.args.term.now c.args.denial.now c.requires.formula c.requires.denial) small)
-    (denied-fits room (image c.args.term.now) (image c.args.denial.now) (denial-image c.args.recorder.now.theory c.args.term.now c.args.denial.now c.requires.formula c.requires.denial) small)
-    (c.in_ok-absurd.ensures.proves (image c.args.denial.now ∷ []) room
-    (subst (λ (t : Nameless). Proves c.in_ok-denied.denied.theorem (image c.args.denial.now ∷ []) t)
-    (denial-image c.args.recorder.now.theory c.args.term.now c.args.denial.now c.requires.formula c.requires.denial)
-    (assumed-proves c.in_ok-denied.denied (image c.args.denial.now) [] (c.in_ok-denied.ensures.gives c.requires.denies.known))) tt small
-    (subst (λ (l : List NamedTerm). AreAllSmall room l) (sym c.requires.atoms) (atoms-small room c.args.term.now small))))
+    c.in_err-denied_denial.ensures.proves [] room (denial-fits room (image c.args.term.now) (image c.args.denied.now.denial)
+    (denial-image c.args.recorder.now.theory c.args.term.now c.args.denied.now.denial c.requires.denied.passed.formula c.requires.denied.denial) small)
+    (denied-fits room (image c.args.term.now) (image c.args.denied.now.denial) (denial-image c.args.recorder.now.theory c.args.term.now c.args.denied.now.denial c.requires.denied.passed.formula c.requires.denied.denial) small)
+    (c.in_ok-absurd.ensures.proves (image c.args.denied.now.denial ∷ []) room
+    (subst (λ (t : Nameless). Proves c.in_ok-assumed.assumed.theorem (image c.args.denied.now.denial ∷ []) t)
+    (denial-image c.args.recorder.now.theory c.args.term.now c.args.denied.now.denial c.requires.denied.passed.formula c.requires.denied.denial)
+    (assumed-proves c.in_ok-assumed.assumed (image c.args.denied.now.denial) [] (c.in_ok-assumed.ensures.gives c.requires.denied.denies.known))) tt small
+    (subst (λ (l : List NamedTerm). AreAllSmall room l) (sym (c.deref.ensures.value ∙ c.requires.denied.atoms)) (atoms-small room c.args.term.now small))))
 
 pub by_one-requires-clause-laws : goal.by_one-requires-clause-laws
 by_one-requires-clause-laws c =
@@ -125,18 +125,18 @@ returns-clause-continues c =
 
 pub returns-clause-proves : goal.returns-clause-proves
 returns-clause-proves c = λ room small.
-    c.by_one.ensures.proves [] (fact false (image c.args.denial.now)) (image c.args.term.now) room
-    (denied-leads c.denied_by.new.recorder.theory c.args.term.now (image c.args.denial.now) room
-    (denial-image c.args.recorder.now.theory c.args.term.now c.args.denial.now c.requires.formula c.requires.denial)
+    c.by_one.ensures.proves [] (fact false (image c.args.denied.now.denial)) (image c.args.term.now) room
+    (denied-leads c.denied_by.new.recorder.theory c.args.term.now (image c.args.denied.now.denial) room
+    (denial-image c.args.recorder.now.theory c.args.term.now c.args.denied.now.denial c.requires.denied.passed.formula c.requires.denied.denial)
     (still_formula c.args.recorder.now c.denied_by.new.recorder c.denied_by.result c.args.term.now
     (continues-twice c.args.recorder.now c.refuted.new.recorder c.denied_by.new.recorder c.refuted.result c.denied_by.result
     (continues-twice c.args.recorder.now c.assume.new.recorder c.refuted.new.recorder c.assume.result c.refuted.result c.assume.ensures.continues c.refuted.ensures.continues)
-    c.denied_by.ensures.continues) c.requires.formula) small)
-    (c.in_ok-denied_denial.ensures.proves [] room (denial-fits room (image c.args.term.now) (image c.args.denial.now)
-    (denial-image c.args.recorder.now.theory c.args.term.now c.args.denial.now c.requires.formula c.requires.denial) small)
-    (denied-fits room (image c.args.term.now) (image c.args.denial.now) (denial-image c.args.recorder.now.theory c.args.term.now c.args.denial.now c.requires.formula c.requires.denial) small)
-    (c.in_ok-absurd.ensures.proves (image c.args.denial.now ∷ []) room
-    (subst (λ (t : Nameless). Proves c.in_ok-denied.denied.theorem (image c.args.denial.now ∷ []) t)
-    (denial-image c.args.recorder.now.theory c.args.term.now c.args.denial.now c.requires.formula c.requires.denial)
-    (assumed-proves c.in_ok-denied.denied (image c.args.denial.now) [] (c.in_ok-denied.ensures.gives c.requires.denies.known))) tt small
-    (subst (λ (l : List NamedTerm). AreAllSmall room l) (sym c.requires.atoms) (atoms-small room c.args.term.now small))))
+    c.denied_by.ensures.continues) c.requires.denied.passed.formula) small)
+    (c.in_ok-denied_denial.ensures.proves [] room (denial-fits room (image c.args.term.now) (image c.args.denied.now.denial)
+    (denial-image c.args.recorder.now.theory c.args.term.now c.args.denied.now.denial c.requires.denied.passed.formula c.requires.denied.denial) small)
+    (denied-fits room (image c.args.term.now) (image c.args.denied.now.denial) (denial-image c.args.recorder.now.theory c.args.term.now c.args.denied.now.denial c.requires.denied.passed.formula c.requires.denied.denial) small)
+    (c.in_ok-absurd.ensures.proves (image c.args.denied.now.denial ∷ []) room
+    (subst (λ (t : Nameless). Proves c.in_ok-assumed.assumed.theorem (image c.args.denied.now.denial ∷ []) t)
+    (denial-image c.args.recorder.now.theory c.args.term.now c.args.denied.now.denial c.requires.denied.passed.formula c.requires.denied.denial)
+    (assumed-proves c.in_ok-assumed.assumed (image c.args.denied.now.denial) [] (c.in_ok-assumed.ensures.gives c.requires.denied.denies.known))) tt small
+    (subst (λ (l : List NamedTerm). AreAllSmall room l) (sym (c.deref.ensures.value ∙ c.requires.denied.atoms)) (atoms-small room c.args.term.now small))))
