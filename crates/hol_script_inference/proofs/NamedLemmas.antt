@@ -11,9 +11,6 @@ use Rattle.hol_model.specs.Texts.Reading.{◌>>=◌, meaning}
 use Rattle.hol_model.specs.Texts.TermGrammar.{TermTree}
 use Rattle.hol_model.specs.Derived.InferenceRules.{InferenceRule}
 use Rattle.hol_model_rules.specs.declared.rule_name.RuleName.{RuleName}
-use Rattle.hol_model_rules.specs.declared.rule_name.RuleName.TheVariants.{Refl, Trans, MkComb, Abs, Beta, Assume, EqMp, DeductAntisym, EtaAxiom, SelectAxiom, Sym, AddAssum, ProveHyp, EqtIntro, EqtElim}
-use Rattle.hol_model_rules.specs.declared.rule_name.RuleName.TheVariants.{BetaConv, Conj, Conjunct1, Conjunct2, Disch, Undisch, Mp, Spec, Gen, Disj1, Disj2, DisjCases, Contr, NotIntro, NotElim, Exists}
-use Rattle.hol_model_rules.specs.declared.rule_name.RuleName.TheVariants.{Choose}
 use Rattle.hol_model_rules.specs.RuleForms.{form_of}
 use Rattle.hol_model_rules.specs.RuleOutcomes.{rule_with, IsOutcome}
 use Rattle.hol_model_sessions.specs.Commands.{by_name}
@@ -44,7 +41,7 @@ pub lent-further : (journal : Journal) (found : List (Bor Recorded)) (made : Bor
 lent-further journal [] made lent is = (is, tt)
 lent-further journal (other ∷ found) made lent is = (lent.0, lent-further journal found made lent.1 is)
 
--- ---- a rule for its number of terms
+-- ---- the number of terms
 
 each-length : {A B : Type 0} → (read : A → Result B Fault) (items : List A) (done : List B) → each read items ≡ Ok done → length done ≡ length items
 each-length read [] done is = (let none : done ≡ [] = cc in rw none refl)
@@ -58,45 +55,10 @@ each-length read (item ∷ items) done is = go (read item) (each read items) (λ
     go (Ok x) (Err fault) lengths same = cc
     go (Err fault) others lengths same = cc
 
-has-rule : (rule : RuleName) (terms : List NamedTerm) → length terms ≡ (form_of rule).terms → None ≡ rule_with rule terms → ⊥
-has-rule Trans [] same none = cc
-has-rule MkComb [] same none = cc
-has-rule EqMp [] same none = cc
-has-rule DeductAntisym [] same none = cc
-has-rule EtaAxiom [] same none = cc
-has-rule SelectAxiom [] same none = cc
-has-rule Sym [] same none = cc
-has-rule ProveHyp [] same none = cc
-has-rule EqtIntro [] same none = cc
-has-rule EqtElim [] same none = cc
-has-rule Conj [] same none = cc
-has-rule Conjunct1 [] same none = cc
-has-rule Conjunct2 [] same none = cc
-has-rule Undisch [] same none = cc
-has-rule Mp [] same none = cc
-has-rule DisjCases [] same none = cc
-has-rule NotIntro [] same none = cc
-has-rule NotElim [] same none = cc
-has-rule Refl (t ∷ []) same none = cc
-has-rule Abs (t ∷ []) same none = cc
-has-rule Beta (t ∷ []) same none = cc
-has-rule Assume (t ∷ []) same none = cc
-has-rule AddAssum (t ∷ []) same none = cc
-has-rule BetaConv (t ∷ []) same none = cc
-has-rule Disch (t ∷ []) same none = cc
-has-rule Spec (t ∷ []) same none = cc
-has-rule Gen (t ∷ []) same none = cc
-has-rule Disj1 (t ∷ []) same none = cc
-has-rule Disj2 (t ∷ []) same none = cc
-has-rule Contr (t ∷ []) same none = cc
-has-rule Choose (t ∷ []) same none = cc
-has-rule Exists (t ∷ u ∷ []) same none = cc
-has-rule rule terms same none = cc
-
--- there is a rule for the terms that are read
+-- so many terms are read as the rule takes
 pub takes-terms : (state : State) (rule : RuleName) (trees : List TermTree) (terms : List NamedTerm) → length trees ≡ (form_of rule).terms → each (meaning (scope_in state) []) trees ≡ Ok terms
-    → None ≡ rule_with rule terms → ⊥
-takes-terms state rule trees terms lengths meant none = has-rule rule terms (each-length (meaning (scope_in state) []) trees terms meant ∙ lengths) none
+    → length terms ≡ (form_of rule).terms
+takes-terms state rule trees terms lengths meant = each-length (meaning (scope_in state) []) trees terms meant ∙ lengths
 
 -- ---- what a rule answers
 

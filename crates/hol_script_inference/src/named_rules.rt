@@ -1,10 +1,8 @@
 // Rules that take terms and theorems, over a session.
 ghost use Rattle.std.specs.Prelude.{◌≡◌, ◌∷◌, List, ℕ, [], length, map, IfOk};
-ghost use Rattle.std.specs.Option.{option_map};
 ghost use Rattle.hol_model.specs.Texts.Reading.{meaning};
 ghost use Rattle.hol_model.specs.Texts.TermGrammar.{TermTree};
 ghost use Rattle.hol_model_rules.specs.RuleForms.{form_of};
-ghost use Rattle.hol_model_rules.specs.RuleOutcomes as rules;
 ghost use Rattle.hol_model_sessions.specs.Commands as commands;
 ghost use Rattle.hol_model_sessions.specs.Sessions.{each, scope_in};
 ghost use Rattle.hol_journal.specs.Journal.{Journal, theorem_in};
@@ -44,7 +42,7 @@ pub(crate) fn by_name(
 {
     let terms = terms(session, alloc, quoted)?;
     let premises = premises(&session.library.store, alloc, names)?;
-    let Some(rule) = rule_with(rule, terms) else {
+    let Some(rule) = Rule::of_name(rule, terms) else {
         return Err(Fault::Syntax);
     };
     apply_rule(
@@ -81,79 +79,4 @@ fn premises<'a>(store: &'a Store, alloc: Global, names: &[&str]) -> Result<Vec<&
         premises.push(premise)?;
     }
     Ok(premises)
-}
-
-// The rule of a name with these terms; none, where it takes another number of terms.
-fn rule_with(rule: RuleName, mut terms: Vec<Term>) -> Option<Rule>
-    ensures { option_map rule_of result ≡ rules.rule_with rule terms.items }
-{
-    let Some(last) = terms.pop() else {
-        return without_terms(rule);
-    };
-    let Some(first) = terms.pop() else {
-        return with_term(rule, last);
-    };
-    if !terms.is_empty() {
-        return None;
-    }
-    with_two_terms(rule, first, last)
-}
-
-// The rule of a name without terms.
-fn without_terms(rule: RuleName) -> Option<Rule>
-    ensures { option_map rule_of result ≡ rules.rule_with rule [] }
-{
-    match rule {
-        RuleName::Trans => Some(Rule::Trans),
-        RuleName::MkComb => Some(Rule::MkComb),
-        RuleName::EqMp => Some(Rule::EqMp),
-        RuleName::DeductAntisym => Some(Rule::DeductAntisym),
-        RuleName::EtaAxiom => Some(Rule::EtaAxiom),
-        RuleName::SelectAxiom => Some(Rule::SelectAxiom),
-        RuleName::Sym => Some(Rule::Sym),
-        RuleName::ProveHyp => Some(Rule::ProveHyp),
-        RuleName::EqtIntro => Some(Rule::EqtIntro),
-        RuleName::EqtElim => Some(Rule::EqtElim),
-        RuleName::Conj => Some(Rule::Conj),
-        RuleName::Conjunct1 => Some(Rule::Conjunct1),
-        RuleName::Conjunct2 => Some(Rule::Conjunct2),
-        RuleName::Undisch => Some(Rule::Undisch),
-        RuleName::Mp => Some(Rule::Mp),
-        RuleName::DisjCases => Some(Rule::DisjCases),
-        RuleName::NotIntro => Some(Rule::NotIntro),
-        RuleName::NotElim => Some(Rule::NotElim),
-        _ => None,
-    }
-}
-
-// The rule of a name with a term.
-fn with_term(rule: RuleName, term: Term) -> Option<Rule>
-    ensures { option_map rule_of result ≡ rules.rule_with rule (term ∷ []) }
-{
-    match rule {
-        RuleName::Refl => Some(Rule::Refl(term)),
-        RuleName::Abs => Some(Rule::Abs(term)),
-        RuleName::Beta => Some(Rule::Beta(term)),
-        RuleName::Assume => Some(Rule::Assume(term)),
-        RuleName::AddAssum => Some(Rule::AddAssum(term)),
-        RuleName::BetaConv => Some(Rule::BetaConv(term)),
-        RuleName::Disch => Some(Rule::Disch(term)),
-        RuleName::Spec => Some(Rule::Spec(term)),
-        RuleName::Gen => Some(Rule::Gen(term)),
-        RuleName::Disj1 => Some(Rule::Disj1(term)),
-        RuleName::Disj2 => Some(Rule::Disj2(term)),
-        RuleName::Contr => Some(Rule::Contr(term)),
-        RuleName::Choose => Some(Rule::Choose(term)),
-        _ => None,
-    }
-}
-
-// The rule of a name with two terms.
-fn with_two_terms(rule: RuleName, first: Term, second: Term) -> Option<Rule>
-    ensures { option_map rule_of result ≡ rules.rule_with rule (first ∷ second ∷ []) }
-{
-    match rule {
-        RuleName::Exists => Some(Rule::Exists(first, second)),
-        _ => None,
-    }
 }

@@ -1,4 +1,4 @@
-use Rattle.std.proofs.Common.{Bor, List, ℕ, ◌≡◌, ◌⊎◌, sym, subst, ◌∙◌, ap, Err}
+use Rattle.std.proofs.Common.{Bor, true, false, List, ℕ, ◌≡◌, ◌⊎◌, sym, subst, ◌∙◌, ap, Err}
 use Rattle.hol_model.specs.declared.fault.Fault.TheVariants.{Memory}
 use Rattle.std.proofs.lemmas.Result.{err_from_is_err_and}
 use Rattle.hol_journal.specs.Journal.{Recorded, theorem_in}
@@ -20,12 +20,12 @@ returns-in_err-premises-clause-answers c = λ trees names lengths matched named.
 
 pub returns-in_default-clause-answers : goal.returns-in_default-clause-answers
 returns-in_default-clause-answers c = λ trees names lengths matched named.
-    absurd (takes-terms (state_of c.args.session.now) c.args.rule trees c.in_ok-terms.terms.items lengths (c.in_ok-terms.ensures trees matched) c.in_default.ensures)
+    let none : false ≡ true = c.in_default.ensures.takes (takes-terms (state_of c.args.session.now) c.args.rule trees c.in_ok-terms.terms.items lengths (c.in_ok-terms.ensures trees matched)) in cc
 
 pub returns-clause-answers : goal.returns-clause-answers
 returns-clause-answers c = λ trees names lengths matched named.
     let state = state_of c.args.session.now in
     let theorems = lent_theorems c.in_ok-premises.premises.items in
     named-answers state c.args.rule trees names c.in_ok-terms.terms.items theorems (rule_of c.in-Some.rule) (theorem_in c.apply_rule.result) (c.in_ok-terms.ensures trees matched)
-    (ap (each (theorem_named state)) (sym named) ∙ c.in_ok-premises.ensures.found) c.in-Some.ensures
+    (ap (each (theorem_named state)) (sym named) ∙ c.in_ok-premises.ensures.found) c.in-Some.ensures.rule
     (subst (λ (ps : List (Bor Recorded)). IsOutcome state.theory (rule_of c.in-Some.rule) (lent_theorems ps) (theorem_in c.apply_rule.result)) c.deref.ensures.value c.apply_rule.ensures.outcome.is)
