@@ -107,9 +107,7 @@ pub(crate) fn judge_abstraction(
         WrittenShape::Variable(number) => {
             judge_written(write_abstraction(terms, number, body as usize, b))
         }
-        WrittenShape::Constant(_number) => Ok(Err(Cause::Kind)),
-        WrittenShape::Application(_function, _argument) => Ok(Err(Cause::Kind)),
-        WrittenShape::Abstraction(_binder, _body) => Ok(Err(Cause::Kind)),
+        _ => Ok(Err(Cause::Kind)),
     }
 }
 

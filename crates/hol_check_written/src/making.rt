@@ -156,29 +156,23 @@ fn number_under(
             let new_function = number_under(
                 alloc, terms, made, known, written, &*binders, function,
             )?;
-            match number_under(alloc, terms, made, known, written, &*binders, argument) {
-                Ok(new_argument) => {
-                    keep_application(
-                        terms,
-                        made,
-                        known,
-                        is_apart,
-                        line,
-                        new_function,
-                        new_argument,
-                    )
-                }
-                Err(fault) => Err(fault),
-            }
+            let new_argument = number_under(
+                alloc, terms, made, known, written, &*binders, argument,
+            )?;
+            keep_application(
+                terms,
+                made,
+                known,
+                is_apart,
+                line,
+                new_function,
+                new_argument,
+            )
         }
         WrittenShape::Abstraction(binder, body) => {
-            match number_of_body(alloc, terms, made, written, &*binders, binder, body) {
-                Ok(new_body) => {
-                    let ty = variable_type(terms, binder);
-                    keep_abstraction(terms, made, known, is_apart, line, ty, new_body)
-                }
-                Err(fault) => Err(fault),
-            }
+            let new_body = number_of_body(alloc, terms, made, written, &*binders, binder, body)?;
+            let ty = variable_type(terms, binder);
+            keep_abstraction(terms, made, known, is_apart, line, ty, new_body)
         }
     }
 }
@@ -256,11 +250,7 @@ pub fn make(
     ensures stays { Stays made.old.entries made.new.entries }
     ensures grows { IsGrown terms.old terms.new }
 {
-    match number_of(alloc, terms, made, written, line) {
-        Ok(number) => match note(made, line, number) {
-            Ok(_number) => Ok(()),
-            Err(fault) => Err(fault),
-        },
-        Err(fault) => Err(fault),
-    }
+    let number = number_of(alloc, terms, made, written, line)?;
+    note(made, line, number)?;
+    Ok(())
 }
