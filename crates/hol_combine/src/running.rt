@@ -44,10 +44,8 @@ fn run_host<H: Refiners, L: Leaves>(
         Err(HostFail::Failed) => return Err(Fault::RefineFails),
         Err(HostFail::Memory) => return Err(Fault::Memory),
     };
-    match leaves.accept(alloc, goal, &step) {
-        Ok(()) => bounded(alloc, step),
-        Err(fault) => Err(fault),
-    }
+    leaves.accept(alloc, goal, &step)?;
+    bounded(alloc, step)
 }
 
 /// Runs an expression on a goal.
@@ -70,10 +68,10 @@ pub(crate) fn run<H: Refiners, L: Leaves>(
     match tac {
         Tac::Leaf(leaf) => leaves.refine(alloc, leaf, goal, host, fuel),
         Tac::Host(name) => run_host(alloc, name, goal, host, leaves, fuel),
-        Tac::Chain(first, links) => match run(alloc, first, goal, host, leaves, fuel) {
-            Ok(step) => run_links(alloc, step, links, host, leaves, fuel),
-            Err(fault) => Err(fault),
-        },
+        Tac::Chain(first, links) => {
+            let step = run(alloc, first, goal, host, leaves, fuel)?;
+            run_links(alloc, step, links, host, leaves, fuel)
+        }
         Tac::OrElse(first, others) => match run(alloc, first, goal, host, leaves, fuel) {
             Ok(step) => Ok(step),
             Err(fault) => run_others(alloc, fault, others, goal, host, leaves, fuel),

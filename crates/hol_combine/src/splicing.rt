@@ -33,8 +33,5 @@ pub(crate) fn bounded(alloc: Global, step: Step) -> Result<Step, Fault>
 pub(crate) fn spliced(alloc: Global, just: Just, steps: Vec<Step>) -> Result<Step, Fault>
     ensures { AnswersSpliced (tree_of just) (map step_of steps.items) (answer_of result) }
 {
-    match hol_just::spliced_step(alloc, just, steps) {
-        Ok(step) => Ok(step),
-        Err(fault) => Err(fault),
-    }
+    hol_just::spliced_step(alloc, just, steps)
 }

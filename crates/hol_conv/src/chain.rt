@@ -108,10 +108,8 @@ pub(crate) fn finish(
         ..
     } = chain;
     let last = same(library, &current, fuel);
-    match theorem(library, alloc, &current, last) {
-        Ok(last) => as_answer(joined(library, alloc, theorems, last)),
-        Err(fault) => Err(fault),
-    }
+    let last = theorem(library, alloc, &current, last)?;
+    as_answer(joined(library, alloc, theorems, last))
 }
 
 /// What was answered on the term, or ALL_CONV where it is a refusal that is caught.
@@ -143,10 +141,7 @@ pub(crate) fn changed(t: &Term, answer: Result<Converted, Fault>) -> Result<Conv
     ensures same { IfOk result (λ same. answer ≡ Ok same) }
     ensures changed { (theory : Theory) → answered theory t.now result ≡ conversions.if_changed t.now (answered theory t.now answer) }
 {
-    match answer {
-        Ok(answer) => only_changed(t, answer),
-        Err(fault) => Err(fault),
-    }
+    only_changed(t, answer?)
 }
 
 // Makes that the current term equals itself, where that stands behind the theorems.

@@ -101,10 +101,8 @@ pub(crate) fn needed(
 {
     let mut marks = marks_of(alloc, recorder.entries(), claimed)?;
     let mut names = Names::new(alloc);
-    match mark_all(recorder, claimed, &mut marks, &mut names) {
-        Ok(()) => Ok(marks),
-        Err(fault) => Err(fault),
-    }
+    mark_all(recorder, claimed, &mut marks, &mut names)?;
+    Ok(marks)
 }
 
 // So many marks, of which those of these numbers are set.

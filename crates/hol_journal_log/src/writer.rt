@@ -551,10 +551,9 @@ impl<'a> Writer<'a> {
         if !mark {
             return Ok(());
         }
-        match recorder.stored(number) {
-            Ok(Some(entry)) => self.write_entry(alloc, number, entry),
-            Ok(None) => Err(Fault::Memory),
-            Err(fault) => Err(fault),
+        match recorder.stored(number)? {
+            Some(entry) => self.write_entry(alloc, number, entry),
+            None => Err(Fault::Memory),
         }
     }
 

@@ -244,8 +244,6 @@ pub fn spliced_step(alloc: Global, just: Just, parts: Vec<Step>) -> Result<Step,
     let root = just.node.root;
     let spliced = redirected_just(alloc, joined, goals.len(), just)?;
     let root = place_at(&spliced.new_places, root);
-    match finished(alloc, spliced.lines, root) {
-        Ok(just) => Ok(Step { goals, just }),
-        Err(fault) => Err(fault),
-    }
+    let just = finished(alloc, spliced.lines, root)?;
+    Ok(Step { goals, just })
 }

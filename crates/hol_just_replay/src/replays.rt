@@ -164,10 +164,7 @@ fn named_answer(
 {
     let _entries = recorder.entries();
     match found {
-        Some(theorem) => match theorem.copy(alloc) {
-            Ok(copy) => Ok(LineAnswer::Made(copy)),
-            Err(fault) => Err(fault),
-        },
+        Some(theorem) => Ok(LineAnswer::Made(theorem.copy(alloc)?)),
         None => Ok(LineAnswer::Invalid),
     }
 }

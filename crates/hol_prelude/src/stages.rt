@@ -31,10 +31,8 @@ fn with_laws(recorder: &mut Recorder, alloc: Global) -> Result<Vec<Rec>, Fault>
     ensures made { IfOk result (λ all. AreMade recorder.new all.items) }
     ensures grown { IsGrown recorder.old recorder.new }
 {
-    match first(recorder, alloc) {
-        Ok(earlier) => make_table(recorder, alloc, earlier, &LAWS),
-        Err(fault) => Err(fault),
-    }
+    let earlier = first(recorder, alloc)?;
+    make_table(recorder, alloc, earlier, &LAWS)
 }
 
 // The theorems, and the laws of falsity.
@@ -44,10 +42,8 @@ fn with_falsity(recorder: &mut Recorder, alloc: Global) -> Result<Vec<Rec>, Faul
     ensures made { IfOk result (λ all. AreMade recorder.new all.items) }
     ensures grown { IsGrown recorder.old recorder.new }
 {
-    match with_laws(recorder, alloc) {
-        Ok(earlier) => make_table(recorder, alloc, earlier, &FALSITY_LAWS),
-        Err(fault) => Err(fault),
-    }
+    let earlier = with_laws(recorder, alloc)?;
+    make_table(recorder, alloc, earlier, &FALSITY_LAWS)
 }
 
 // The theorems, and the laws of the formula that is chosen for `p \/ ~p`.
@@ -57,10 +53,8 @@ fn with_decider(recorder: &mut Recorder, alloc: Global) -> Result<Vec<Rec>, Faul
     ensures made { IfOk result (λ all. AreMade recorder.new all.items) }
     ensures grown { IsGrown recorder.old recorder.new }
 {
-    match with_falsity(recorder, alloc) {
-        Ok(earlier) => make_table(recorder, alloc, earlier, &DECIDER_LAWS),
-        Err(fault) => Err(fault),
-    }
+    let earlier = with_falsity(recorder, alloc)?;
+    make_table(recorder, alloc, earlier, &DECIDER_LAWS)
 }
 
 // The theorems, and DISJ1.
@@ -70,10 +64,8 @@ fn with_disjunction(recorder: &mut Recorder, alloc: Global) -> Result<Vec<Rec>, 
     ensures made { IfOk result (λ all. AreMade recorder.new all.items) }
     ensures grown { IsGrown recorder.old recorder.new }
 {
-    match with_decider(recorder, alloc) {
-        Ok(earlier) => make_table(recorder, alloc, earlier, &DISJUNCTION),
-        Err(fault) => Err(fault),
-    }
+    let earlier = with_decider(recorder, alloc)?;
+    make_table(recorder, alloc, earlier, &DISJUNCTION)
 }
 
 // The theorems, and DISJ2 and DISJ_CASES.
@@ -83,10 +75,8 @@ fn with_cases(recorder: &mut Recorder, alloc: Global) -> Result<Vec<Rec>, Fault>
     ensures made { IfOk result (λ all. AreMade recorder.new all.items) }
     ensures grown { IsGrown recorder.old recorder.new }
 {
-    match with_disjunction(recorder, alloc) {
-        Ok(earlier) => make_table(recorder, alloc, earlier, &CASES),
-        Err(fault) => Err(fault),
-    }
+    let earlier = with_disjunction(recorder, alloc)?;
+    make_table(recorder, alloc, earlier, &CASES)
 }
 
 // The theorems, and EXISTS.
@@ -96,10 +86,8 @@ fn with_existence(recorder: &mut Recorder, alloc: Global) -> Result<Vec<Rec>, Fa
     ensures made { IfOk result (λ all. AreMade recorder.new all.items) }
     ensures grown { IsGrown recorder.old recorder.new }
 {
-    match with_cases(recorder, alloc) {
-        Ok(earlier) => make_table(recorder, alloc, earlier, &EXISTENCE),
-        Err(fault) => Err(fault),
-    }
+    let earlier = with_cases(recorder, alloc)?;
+    make_table(recorder, alloc, earlier, &EXISTENCE)
 }
 
 // The theorems, and CHOOSE, ETA_AX and SELECT_AX.
@@ -110,10 +98,8 @@ fn with_axioms(recorder: &mut Recorder, alloc: Global) -> Result<Vec<Rec>, Fault
     ensures made { IfOk result (λ all. AreMade recorder.new all.items) }
     ensures grown { IsGrown recorder.old recorder.new }
 {
-    match with_existence(recorder, alloc) {
-        Ok(earlier) => make_table(recorder, alloc, earlier, &AXIOMS),
-        Err(fault) => Err(fault),
-    }
+    let earlier = with_existence(recorder, alloc)?;
+    make_table(recorder, alloc, earlier, &AXIOMS)
 }
 
 /// All theorems, the laws among them.
@@ -124,8 +110,6 @@ pub(crate) fn with_middle(recorder: &mut Recorder, alloc: Global) -> Result<Vec<
     ensures made { IfOk result (λ all. AreMade recorder.new all.items) }
     ensures grown { IsGrown recorder.old recorder.new }
 {
-    match with_axioms(recorder, alloc) {
-        Ok(earlier) => make_table(recorder, alloc, earlier, &MIDDLE),
-        Err(fault) => Err(fault),
-    }
+    let earlier = with_axioms(recorder, alloc)?;
+    make_table(recorder, alloc, earlier, &MIDDLE)
 }

@@ -32,10 +32,8 @@ fn add_lemma(library: &mut Library, theorem: Rec) -> Result<(), Fault>
     ensures library { IsLibrary library.new }
     ensures extended { IsExtended library.old library.new }
 {
-    match library.store.add_lemma(theorem) {
-        Ok(_) => Ok(()),
-        Err(fault) => Err(fault),
-    }
+    library.store.add_lemma(theorem)?;
+    Ok(())
 }
 
 // A theorem that the recorder made is one of its theory, or of an earlier state of it. Nothing is computed.

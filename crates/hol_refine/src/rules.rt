@@ -71,8 +71,5 @@ pub(crate) fn rules_named(
     ensures err { IfErr result (λ fault. (fault ≡ Memory) ⊎ IsRefusedBefore (store_in library.old) (rewrite_tac (map string_bytes names.now)) fault) }
 {
     let theorems = theorems_named(alloc, &library.store, names)?;
-    match rules_of_all(library, alloc, &theorems) {
-        Ok(rules) => Ok(rules),
-        Err(fault) => Err(fault),
-    }
+    rules_of_all(library, alloc, &theorems)
 }

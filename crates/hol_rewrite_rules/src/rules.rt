@@ -53,15 +53,14 @@ fn rules_under(
     ensures ok { IfOk result (λ rules. HasRules hypotheses.now theorem.now.theorem.conclusion (theorems rules.items)) }
     ensures err { IfErr result (λ fault. IsPast fault (are_small theorem.now.theorem)) }
 {
-    match reduce(recorder, alloc, logic, hypotheses, theorem) {
-        Ok(Reduced::Parts(left, right)) => {
+    match reduce(recorder, alloc, logic, hypotheses, theorem)? {
+        Reduced::Parts(left, right) => {
             let rules = rules_under(recorder, alloc, logic, hypotheses, &left)?;
             let more = rules_under(recorder, alloc, logic, hypotheses, &right)?;
             both(rules, more)
         }
-        Ok(Reduced::Body(body)) => rules_under(recorder, alloc, logic, hypotheses, &body),
-        Ok(Reduced::Rule(rule)) => one(alloc, rule),
-        Err(fault) => Err(fault),
+        Reduced::Body(body) => rules_under(recorder, alloc, logic, hypotheses, &body),
+        Reduced::Rule(rule) => one(alloc, rule),
     }
 }
 

@@ -282,10 +282,8 @@ impl Session {
         ensures refusals { IfErr result (Contains (TooLong ∷ Memory ∷ [])) }
     {
         let _entry = self.library.recorder.stored(0);
-        match claims(alloc, &self.library.store, names) {
-            Ok(claims) => log_text(&self.library.recorder, alloc, &claims),
-            Err(fault) => Err(fault),
-        }
+        let claims = claims(alloc, &self.library.store, names)?;
+        log_text(&self.library.recorder, alloc, &claims)
     }
 
     /// The term of a quoted argument.

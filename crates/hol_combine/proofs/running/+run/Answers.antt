@@ -23,19 +23,19 @@ use Rattle.hol_combine.proofs.running.+run.Goals as goal
 pub run-run_links-requires : goal.run-run_links-requires
 run-run_links-requires g t c =
     let posed = rw (c.in-Chain.is, chain_means) at c.requires.posed in
-    let here = rw c.deref-in-Chain.ensures at c.in-Ok.ensures.outcome in
-    let asked = rw (← c.in-Ok.ensures.theory, ← c.deref-in-Ok.ensures.value) at (links-posed _ _ here posed) in
-    λ κs lives. (search (rules, tac.the_lemmas, tac.size_is-Tac), (lives.0, (lives.1, (c.in-Ok.ensures.ready, asked))))
+    let here = rw c.deref-in-Chain.ensures at c.in_ok-step-in-Chain.ensures.outcome in
+    let asked = rw (← c.in_ok-step-in-Chain.ensures.theory, ← c.deref-in_ok-step-in-Chain.ensures.value) at (links-posed _ _ here posed) in
+    λ κs lives. (search (rules, tac.the_lemmas, tac.size_is-Tac), (lives.0, (lives.1, (c.in_ok-step-in-Chain.ensures.ready, asked))))
 
 pub run-run_others-requires : goal.run-run_others-requires
 run-run_others-requires g t c =
     let posed = rw (c.in-OrElse.is, orelse_means) at c.requires.posed in
-    let here = rw c.deref-in-OrElse.ensures at c.in-Err-run.ensures.outcome in
-    let asked = rw (← c.in-Err-run.ensures.theory, ← c.deref-in-Err-run.ensures.value) at (others-posed _ _ here posed) in
+    let here = rw c.deref-in-OrElse.ensures at c.in-Err.ensures.outcome in
+    let asked = rw (← c.in-Err.ensures.theory, ← c.deref-in-Err.ensures.value) at (others-posed _ _ here posed) in
     search (rules, tac.the_lemmas, tac.size_is-Tac)
 
-pub run-refine-requires-in-Err-run-2-clause-posed : goal.run-refine-requires-in-Err-run-2-clause-posed
-run-refine-requires-in-Err-run-2-clause-posed g t c = rw c.in-Err-run-2.ensures.theory (stays-posed _ _ c.in-Err-run-2.ensures.outcome c.requires.posed)
+pub run-refine-requires-in-Err-run-clause-posed : goal.run-refine-requires-in-Err-run-clause-posed
+run-refine-requires-in-Err-run-clause-posed g t c = rw c.in-Err-run.ensures.theory (stays-posed _ _ c.in-Err-run.ensures.outcome c.requires.posed)
 
 pub run_link-run_on_each-requires : goal.run_link-run_on_each-requires
 run_link-run_on_each-requires g t c =
@@ -50,36 +50,37 @@ run_once-refine-requires-clause-posed g t c = rw c.in-Err.ensures.theory (stays-
 
 pub run-returns-then-not-is_caught-clause-outcome : goal.run-returns-then-not-is_caught-clause-outcome
 run-returns-then-not-is_caught-clause-outcome g t c =
-    rw c.in-Try.is (tries _ _ (first_is_not_caught (rw c.deref-in-Try.ensures at c.in-Err-run-2.ensures.outcome) (search rules)))
+    rw c.in-Try.is (tries _ _ (first_is_not_caught (rw c.deref-in-Try.ensures at c.in-Err-run.ensures.outcome) (search rules)))
+
+pub run-returns-in_ok-step-in-Chain-clause-outcome : goal.run-returns-in_ok-step-in-Chain-clause-outcome
+run-returns-in_ok-step-in-Chain-clause-outcome g t c =
+    rw (c.in-Chain.is, chain_means) (first_goes_on (rw c.deref-in-Chain.ensures at c.in_ok-step-in-Chain.ensures.outcome) (rw (c.deref-in_ok-step-in-Chain.ensures.value, c.in_ok-step-in-Chain.ensures.theory) at c.run_links.ensures.outcome))
+
+pub run-returns-in_err-step-in-Chain-clause-outcome : goal.run-returns-in_err-step-in-Chain-clause-outcome
+run-returns-in_err-step-in-Chain-clause-outcome g t c =
+    let p = err_from_is_err_and c.from_residual.result c.from_residual.ensures.1 in
+    rw (p.1, p.2, c.in-Chain.is, chain_means) (first_is_refused (rw c.deref-in-Chain.ensures at c.in_err-step-in-Chain.ensures.outcome))
 
 pub run-returns-in-Ok-clause-outcome : goal.run-returns-in-Ok-clause-outcome
 run-returns-in-Ok-clause-outcome g t c =
-    rw (c.in-Chain.is, chain_means) (first_goes_on (rw c.deref-in-Chain.ensures at c.in-Ok.ensures.outcome) (rw (c.deref-in-Ok.ensures.value, c.in-Ok.ensures.theory) at c.run_links.ensures.outcome))
+    rw (c.in-OrElse.is, orelse_means) (first_answers (rw c.deref-in-OrElse.ensures at c.in-Ok.ensures.outcome))
 
 pub run-returns-in-Err-clause-outcome : goal.run-returns-in-Err-clause-outcome
 run-returns-in-Err-clause-outcome g t c =
-    rw (c.in-Chain.is, chain_means) (first_is_refused (rw c.deref-in-Chain.ensures at c.in-Err.ensures.outcome))
-
-pub run-returns-in-Ok-run-clause-outcome : goal.run-returns-in-Ok-run-clause-outcome
-run-returns-in-Ok-run-clause-outcome g t c =
-    rw (c.in-OrElse.is, orelse_means) (first_answers (rw c.deref-in-OrElse.ensures at c.in-Ok-run.ensures.outcome))
-
-pub run-returns-in-Err-run-clause-outcome : goal.run-returns-in-Err-run-clause-outcome
-run-returns-in-Err-run-clause-outcome g t c =
-    let goes = rw (c.deref-in-Err-run.ensures.value, c.in-Err-run.ensures.theory) at c.run_others.ensures.outcome in
-    rw (c.in-OrElse.is, orelse_means) (goes.answers _ _ (rw c.deref-in-OrElse.ensures at c.in-Err-run.ensures.outcome))
+    let goes = rw (c.deref-in-Err.ensures.value, c.in-Err.ensures.theory) at c.run_others.ensures.outcome in
+    rw (c.in-OrElse.is, orelse_means) (goes.answers _ _ (rw c.deref-in-OrElse.ensures at c.in-Err.ensures.outcome))
 
 pub run-returns-in-Repeat-clause-outcome : goal.run-returns-in-Repeat-clause-outcome
 run-returns-in-Repeat-clause-outcome g t c = rw c.in-Repeat.is (rw c.deref-in-Repeat.ensures at c.run_repeat.ensures.outcome)
 
-pub run-returns-in-Ok-run-2-clause-outcome : goal.run-returns-in-Ok-run-2-clause-outcome
-run-returns-in-Ok-run-2-clause-outcome g t c =
-    rw c.in-Try.is (tries _ _ (first_answers (rw c.deref-in-Try.ensures at c.in-Ok-run-2.ensures.outcome)))
+pub run-returns-in-Ok-run-clause-outcome : goal.run-returns-in-Ok-run-clause-outcome
+run-returns-in-Ok-run-clause-outcome g t c =
+    rw c.in-Try.is (tries _ _ (first_answers (rw c.deref-in-Try.ensures at c.in-Ok-run.ensures.outcome)))
 
 pub run-returns-else-not-is_caught-clause-outcome : goal.run-returns-else-not-is_caught-clause-outcome
 run-returns-else-not-is_caught-clause-outcome g t c =
-    let stays = rw c.in-Err-run-2.ensures.theory at c.refine-in-Err-run-2.ensures.outcome in
-    rw c.in-Try.is (tries _ _ (first_is_caught (rw c.deref-in-Try.ensures at c.in-Err-run-2.ensures.outcome) (search rules) (alone _ _ _ stays)))
+    let stays = rw c.in-Err-run.ensures.theory at c.refine-in-Err-run.ensures.outcome in
+    rw c.in-Try.is (tries _ _ (first_is_caught (rw c.deref-in-Try.ensures at c.in-Err-run.ensures.outcome) (search rules) (alone _ _ _ stays)))
 
 pub run_link-returns-then-is_empty-clause-outcome : goal.run_link-returns-then-is_empty-clause-outcome
 run_link-returns-then-is_empty-clause-outcome g t c =

@@ -1,4 +1,5 @@
 use Rattle.std.proofs.Common.{rules, ◌≡◌, length, true, subst}
+use Rattle.std.proofs.lemmas.Result.{err_from_is_err_and}
 use Rattle.hol_model.specs.Terms.NamedTerm.{NamedTerm}
 use Rattle.hol_model.specs.Logic.KnownTerm.{is_known}
 use Rattle.hol_model.specs.Refining.Conversions.{is_caught}
@@ -22,25 +23,26 @@ returns-then-is_empty-clause-finishes c =
     ends-empty c.args.chain c.args.fault (answered c.args.library.now.recorder.theory c.args.t.now c.same.result) caught empty (c.requires.chain.begun empty) c.requires.chain.held.known
     c.same.ensures.reflects
 
-pub returns-in-Ok-clause-finishes : goal.returns-in-Ok-clause-finishes
-returns-in-Ok-clause-finishes c =
+pub returns-clause-finishes : goal.returns-clause-finishes
+returns-clause-finishes c =
     let caught : is_caught c.args.fault ≡ true = search rules in
-    ends-joined c.args.chain c.args.fault (answered c.args.library.now.recorder.theory c.args.chain.current c.same-last.result) c.in-Ok.last.theorem caught c.requires.chain.held.known
-    c.same-last.ensures.reflects c.in-Ok.ensures.joins
-    (joined-answer c.args.t.now c.args.chain.theorems.items c.in-Ok.last.theorem c.joined.result c.as_answer.result c.in-Ok.ensures.makes.continued c.joined.ensures.joins c.as_answer.ensures.same)
+    ends-joined c.args.chain c.args.fault (answered c.args.library.now.recorder.theory c.args.chain.current c.same-last.result) c.in_ok-last.last.theorem caught c.requires.chain.held.known
+    c.same-last.ensures.reflects c.in_ok-last.ensures.joins
+    (joined-answer c.args.t.now c.args.chain.theorems.items c.in_ok-last.last.theorem c.joined.result c.as_answer.result c.in_ok-last.ensures.makes.continued c.joined.ensures.joins c.as_answer.ensures.same)
 
-pub returns-in-Ok-clause-makes : goal.returns-in-Ok-clause-makes
-returns-in-Ok-clause-makes c =
+pub returns-clause-makes : goal.returns-clause-makes
+returns-clause-makes c =
     c.as_answer.ensures.made c.args.library.now c.joined.new.library c.args.t.now
     (makes_then c.args.library.now c.theorem.new.library c.joined.new.library c.theorem.result c.joined.result c.theorem.ensures.makes c.joined.ensures.makes)
 
-pub returns-in-Err-clause-finishes : goal.returns-in-Err-clause-finishes
-returns-in-Err-clause-finishes c =
+pub returns-in_err-last-clause-finishes : goal.returns-in_err-last-clause-finishes
+returns-in_err-last-clause-finishes c =
     let caught : is_caught c.args.fault ≡ true = search rules in
-    ends-unmade c.args.chain c.args.fault (answered c.args.library.now.recorder.theory c.args.chain.current c.same-last.result) _ caught c.same-last.ensures.reflects c.in-Err.ensures.joins
+    let p = err_from_is_err_and c.from_residual.result c.from_residual.ensures.1 in
+    rw (p.1, p.2) (ends-unmade c.args.chain c.args.fault (answered c.args.library.now.recorder.theory c.args.chain.current c.same-last.result) _ caught c.same-last.ensures.reflects c.in_err-last.ensures.joins)
 
 pub joined-requires-clause-theorems : goal.joined-requires-clause-theorems
-joined-requires-clause-theorems c = made-later c.args.chain.theorems.items c.in-Ok.ensures.makes.continued c.requires.chain.held.made
+joined-requires-clause-theorems c = made-later c.args.chain.theorems.items c.in_ok-last.ensures.makes.continued c.requires.chain.held.made
 
 pub joined-requires-clause-lead : goal.joined-requires-clause-lead
-joined-requires-clause-lead c = leads-up c.requires.chain.held.lead (reflects-equates c.same-last.ensures.reflects c.in-Ok.ensures.joins)
+joined-requires-clause-lead c = leads-up c.requires.chain.held.lead (reflects-equates c.same-last.ensures.reflects c.in_ok-last.ensures.joins)

@@ -11,5 +11,5 @@ mark_all-requires-clause-begun c =
     (c.in_ok-marks.ensures.count ∙ c.entries.ensures) c.in_ok-marks.ensures.set c.requires.within in
     rw c.new-names.ensures begun
 
-pub returns-in-Ok-clause-ok : goal.returns-in-Ok-clause-ok
-returns-in-Ok-clause-ok c = marking_ended c.args.recorder.now.entries c.args.claimed.now c.mark_all.new.marks.items c.mark_all.new.names c.in-Ok.ensures.ok
+pub returns-clause-ok : goal.returns-clause-ok
+returns-clause-ok c = marking_ended c.args.recorder.now.entries c.args.claimed.now c.mark_all.new.marks.items c.mark_all.new.names c.in_ok-mark_all.ensures.ok
