@@ -1,6 +1,7 @@
 // The makers of a term's nodes: each answers the term or the node's first refusal.
-ghost use Rattle.std.specs.Prelude.{MatchOption, IsFalse, IsTrue, ◌≡◌, List, ℕ, Some, codes};
-ghost use Rattle.hol_model.specs.Terms.HolType.{HolType, function_type, bool_type};
+ghost use Rattle.std.specs.Prelude.{MatchOption, IsFalse, IsTrue, ◌≡◌, if◌then◌else◌, List, ℕ, Some, Ok, Err, codes};
+ghost use Rattle.hol_model.specs.declared.fault.Fault.TheVariants.{NotInstance};
+ghost use Rattle.hol_model.specs.Terms.HolType.{HolType, function_type, bool_type, type_eq, is_instance};
 ghost use Rattle.hol_model.specs.Terms.Name as names;
 ghost use Rattle.hol_model.specs.Terms.NamedTerm.{variable, abstraction, constant, combination, equation, type_of};
 ghost use Rattle.hol_model.specs.Logic.Theory.{choice_name, choice_type};
@@ -36,8 +37,7 @@ fn join_truths(alloc: Global, operator: &Term, left: &Term, right: &Term) -> Res
     requires { type_of operator.now ≡ Some truth_operation }
     ensures { Answers result (well_typed (combination (combination operator.now left.now) right.now)) }
 {
-    let truth = Ty::boolean(alloc)?;
-    if !truth.eq(left.ty()) || !truth.eq(right.ty()) {
+    if !left.ty().is_bool() || !right.ty().is_bool() {
         return Err(Fault::TypeMismatch);
     }
     let applied = Term::mk_comb(alloc, operator, left)?;
@@ -51,6 +51,40 @@ fn truth_operation_type(alloc: Global) -> Result<Ty, Fault>
     let truth = Ty::boolean(alloc)?;
     let predicate = Ty::fun(alloc, &truth, &truth)?;
     Ty::fun(alloc, &truth, &predicate)
+}
+
+// Whether the type is `bool -> bool`.
+fn is_truth_function(ty: &Ty) -> bool
+    ensures { result ≡ type_eq ty.now (function_type bool_type bool_type) }
+{
+    match ty.parts() {
+        TypeParts::Function(domain, codomain) => domain.is_bool() && codomain.is_bool(),
+        _ => false,
+    }
+}
+
+// Whether the type is that of the connectives between truth values.
+fn is_truth_operation(ty: &Ty) -> bool
+    ensures { result ≡ type_eq ty.now truth_operation }
+{
+    match ty.parts() {
+        TypeParts::Function(domain, codomain) => domain.is_bool() && is_truth_function(codomain),
+        _ => false,
+    }
+}
+
+// The type of a connective between truth values that a constant has: its own, where it is that one. Refused: NotInstance.
+fn truth_operation_of(alloc: Global, generic: &Ty) -> Result<Ty, Fault>
+    ensures { Answers result (if is_instance generic.now truth_operation then Ok truth_operation else Err NotInstance) }
+{
+    if is_truth_operation(generic) {
+        return generic.copy(alloc);
+    }
+    let ty = truth_operation_type(alloc)?;
+    if !is_instance(generic, &ty) {
+        return Err(Fault::NotInstance);
+    }
+    Ok(ty)
 }
 
 /// A variable with its type.
@@ -118,10 +152,7 @@ fn join_known(
     let Some(generic) = scope.const_type(name) else {
         return Err(Fault::UnknownConst);
     };
-    let ty = truth_operation_type(alloc)?;
-    if !is_instance(generic, &ty) {
-        return Err(Fault::NotInstance);
-    }
+    let ty = truth_operation_of(alloc, generic)?;
     let operator = Term::mk_const(alloc, name, &ty)?;
     join_truths(alloc, &operator, left, right)
 }
