@@ -1,6 +1,6 @@
 //! Messages that explain the refusals of a script, notes on what is accepted and suspicious, and records of its commands, by a walk
 //! of their own over it: what is said is worked out in `hol_explain_hints`. They take no part in any promise: what a run prints, and
-//! how it ends, is told by `hol_script` alone.
+//! how it ends, is told by `hol_script` alone, whose calls are passed on to the program's commands.
 #![tactic(auto)]
 
 mod follow;
@@ -12,5 +12,5 @@ mod walk;
 
 pub use follow::Follower;
 pub use hol_explain_hints::{Origin, origin_of};
-pub use hol_script::Refused;
+pub use hol_script::{Ended, Refused, Summary, converse, run};
 pub use walk::{Script, explain, explain_refusal, write_records};

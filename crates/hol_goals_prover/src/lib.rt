@@ -6,5 +6,6 @@ mod converting;
 mod proving;
 
 pub use converting::ByExpression;
+pub use hol_goals::{Prover, Stack, accept};
 pub use hol_refine::refine;
 pub use proving::prove;

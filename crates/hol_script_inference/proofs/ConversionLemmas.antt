@@ -22,7 +22,8 @@ use Rattle.hol_model_sessions.specs.SessionTools.{conversion_of_unit}
 use Rattle.hol_tactic_exprs.specs.declared.conv.Conv.{Conv}
 use Rattle.hol_tactic_exprs.specs.Expressions.{conversion_of}
 use Rattle.hol_host.specs.Host.{HostRefiners}
-use Rattle.hol_theorem_library.specs.Library.{store_in}
+use Rattle.hol_theorem_store.specs.Store.{stored_of}
+use Rattle.hol_theorem_store.specs.Stored.{theorems_in}
 use Rattle.hol_syntax_grammar.specs.declared.steps.TermStep.{TermStep}
 use Rattle.hol_syntax_grammar.specs.Steps.{flat_steps_of}
 use Rattle.hol_syntax_grammar.specs.TermSteps.{term_steps, flat_steps}
@@ -46,7 +47,7 @@ unread-conversion tools lemmas library unit tree fault (inr is) = inr (λ beside
 -- what the conversion answers over the store's lemmas
 pub conversion-answers : (refiners : HostRefiners) (conversions : HostConversions) (session : Session) (unit : ConversionUnit) (tree : TermTree) (term : NamedTerm)
     (conversion : Conversion) (answer : Result Theorem Fault) (steps left : ℕ) → meaning (scope_in (state_of session)) [] tree ≡ Ok term → conversion ≡ conversion_of_unit unit → steps ≡ STEPS_LIMIT
-    → Converts session.library.recorder.theory (store_in session.library) conversions 0 steps conversion term answer left
+    → Converts session.library.recorder.theory (theorems_in (stored_of session.library.store)) conversions 0 steps conversion term answer left
     → AnswersPlainly (session_tools refiners conversions) (lemmas_of session) answer (state_of session) (by_conversion unit tree)
 conversion-answers refiners conversions session unit tree term conversion answer steps left meant same full converts = go answer asked
   where

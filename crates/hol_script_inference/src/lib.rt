@@ -8,4 +8,6 @@ mod rows;
 mod tautologies;
 mod theorems;
 
+pub use hol_script_session::reply::{Printed, Refused, plainly};
+pub use hol_script_session::session::Session;
 pub use theorems::thm;

@@ -21,7 +21,7 @@ use Rattle.hol_model_sessions.specs.Replies.{goal_lines, theorem_line, refusal_o
 use Rattle.hol_model_sessions.specs.ScriptSessions.{State, scope_in, store_in, with_goal, with_lemmas, Tools, Accepted, says_goals, stores, May}
 use Rattle.hol_model_sessions.specs.ScriptSessions.{AreShown, IsProved}
 use Rattle.hol_model_sessions.specs.SessionTools.{tools, tactic_of, IsStackExpansion}
-use Rattle.hol_script_session.specs.Performing.{Performs}
+use Rattle.hol_script_inference.specs.Sessions.{Performs}
 
 -- a refusal of a command, which leaves the state
 pub refused_turn : {tools : Tools} {Says : Scope → Reply → Type 0} (state : State) (tree : CommandTree) (fault : Fault)

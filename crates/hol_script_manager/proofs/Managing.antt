@@ -19,7 +19,6 @@ use Rattle.hol_model_sessions.specs.CommandGrammar.{CommandTree, p_command, save
 use Rattle.hol_model_sessions.specs.Sessions.{State as Library, with_theorem}
 use Rattle.hol_model_sessions.specs.Replies.{text_of_goals, text_of_theorem, refusal_of, Reply, theorem_line, goal_lines}
 use Rattle.hol_model_sessions.specs.ScriptSessions.{State, start, scope_in, store_in, with_library, with_proof, says_goals, Tools, May, IsProved}
-use Rattle.hol_script_session.specs.Performing.{Performs}
 use Rattle.hol_laws_sessions.specs.ValidSessions.{IsTold}
 use Rattle.hol_laws_sessions.proofs.StoredTheorems.{start-told}
 use Rattle.hol_sound.specs.Laws.{IsSound}
@@ -31,18 +30,11 @@ use Rattle.hol_just.specs.Steps.{goals_of}
 use Rattle.hol_syntax.specs.Scope.{scope_of}
 use Rattle.hol_theorem_store.specs.Stored.{theorems_in}
 use Rattle.hol_theorem_store.specs.Store.{stored_of}
-use Rattle.hol_goals.specs.Stages.{stack_of, HasGoals}
-use Rattle.hol_goals.specs.Made.{KeepsMade}
-use Rattle.hol_goals.proofs.Made.{kept_stay_made}
-use Rattle.hol_goals.specs.declared.stack.Stack as stacks
-use Rattle.hol_script_session.specs.declared.session.Session.{Session}
-use Rattle.hol_script_session.specs.declared.reply.Printed.{Printed}
-use Rattle.hol_script_session.specs.SessionState as sessions
-use Rattle.hol_script_session.specs.SessionState.{lemmas_of, IsSession, IsLaterLibrary}
-use Rattle.hol_script_session.specs.Answers.{Beside, with_beside, Says, plainly, printed_text, printed_name, IsNewName, TestsName}
-use Rattle.hol_script_session.specs.Growth.{Stores}
-use Rattle.hol_script_session.proofs.SessionLemmas.{scope_same}
-use Rattle.hol_script_session.proofs.RuleLemmas.{proved}
+use Rattle.hol_goals_prover.specs.Stacks.{stack_of, HasGoals, KeepsMade, kept_stay_made}
+use Rattle.hol_goals_prover.specs.Stacks as stacks
+use Rattle.hol_script_inference.specs.Sessions as sessions
+use Rattle.hol_script_inference.specs.Sessions.{Session, IsSession, IsLaterLibrary, lemmas_of, Printed, printed_text, printed_name, Performs, Says, plainly}
+use Rattle.hol_script_inference.specs.Sessions.{Beside, with_beside, IsNewName, TestsName, Stores, scope_same, proved}
 use Rattle.hol_script_manager.specs.declared.manager.Manager.{Manager}
 use Rattle.hol_script_manager.specs.GoalTexts.{is_well_formed}
 use Rattle.hol_script_manager.specs.Managers.{state_of, IsManager, ShowsGoals, IsUndone}

@@ -2,20 +2,15 @@
 use Rattle.std.specs.Prelude.{◌≡◌, ℕ, List, take, Some, None}
 use Rattle.hol_journal.specs.Journal.{Journal}
 use Rattle.hol_journal_log.specs.LogWriting.{Claimed}
-use Rattle.hol_script_session.specs.StoredClaims.{stored_claims}
+use Rattle.hol_script_inference.specs.Sessions.{stored_claims, printed_text, printed_name, Printed, IsSession}
 use Rattle.hol_model.specs.Goals.GoalStates.{Proof, open_goals, goals_of_proof, reverted}
 use Rattle.hol_model_sessions.specs.Replies.{text_of_goals}
 use Rattle.hol_model_sessions.specs.ScriptSessions.{State, scope_in, AreShown}
 use Rattle.hol_theorem_store.specs.Store.{stored_of}
 use Rattle.hol_theorem_store.specs.Stored.{IsStoreOf, KeepsTheorems}
-use Rattle.hol_script_session.specs.Answers.{printed_text, printed_name}
-use Rattle.hol_script_session.specs.declared.reply.Printed.{Printed}
 use Rattle.hol_model.specs.Goals.GoalLaws.{IsValidStack}
-use Rattle.hol_theorem_library.specs.Library.{store_in}
-use Rattle.hol_script_session.specs.SessionState as sessions
-use Rattle.hol_script_session.specs.SessionState.{IsSession}
-use Rattle.hol_goals.specs.Made.{KeepsMade}
-use Rattle.hol_goals.specs.Stages.{stack_of}
+use Rattle.hol_goals_prover.specs.Stacks.{store_in, KeepsMade, stack_of}
+use Rattle.hol_script_inference.specs.Sessions as sessions
 use Rattle.hol_laws_sessions.specs.ValidSessions.{IsTold}
 use Rattle.hol_script_manager.specs.declared.manager.Manager.{Manager}
 

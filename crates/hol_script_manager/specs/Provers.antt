@@ -2,7 +2,7 @@
 use Rattle.std.specs.Prelude.{◌≡◌, refl}
 use Rattle.std.proofs.Common.{◌∙◌}
 use Rattle.hol_journal.proofs.GrowthLemmas.{journals-grow}
-use Rattle.hol_goals.specs.Made.{StaysMade}
+use Rattle.hol_goals_prover.specs.Stacks.{StaysMade}
 use Rattle.hol_goals_prover.specs.Growth.{IsExtended, extended-same, extended-twice}
 use Rattle.hol_script_manager.specs.declared.prover.Prover.{Prover}
 

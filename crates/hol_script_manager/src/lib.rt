@@ -7,6 +7,6 @@ mod laws;
 mod manager;
 mod prover;
 
-pub use hol_script_session::reply::{Printed, Refused, plainly};
+pub use hol_script_inference::{Printed, Refused, plainly};
 pub use laws::managers_refuse;
 pub use manager::Manager;

@@ -6,7 +6,7 @@ use Rattle.hol_model.specs.Logs.LogState.{LogClaim}
 use Rattle.hol_journal.specs.Journal.{Journal}
 use Rattle.hol_check.specs.LogAnswers.{IsRefusedLog}
 use Rattle.hol_check.specs.Checking.{HasClaims}
-use Rattle.hol_script.specs.Managers.{IsAcceptedLog}
+use Rattle.hol_explain.specs.Managers.{IsAcceptedLog}
 
 -- Of the log that a run writes for its claims the checker can answer these claims alone, and it refuses no line of it and
 -- does not find it too long.

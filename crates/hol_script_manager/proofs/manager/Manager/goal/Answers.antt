@@ -1,6 +1,6 @@
 use Rattle.std.proofs.Common.{refl}
 use Rattle.std.proofs.lemmas.Result.{err_from_is_err_and}
-use Rattle.hol_script_session.specs.declared.reply.Printed.TheVariants.{Goals}
+use Rattle.hol_script_inference.specs.Sessions.{Goals}
 use Rattle.hol_script_manager.proofs.SettingGoals.{unread, forgotten, unset, set_turn, new_state, new_manager}
 use Rattle.hol_script_manager.proofs.Managing.{journal_in, unset_manager}
 use Rattle.hol_script_manager.proofs.manager.Manager.goal.Goals as goal

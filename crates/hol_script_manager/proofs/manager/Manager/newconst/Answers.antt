@@ -1,6 +1,5 @@
 use Rattle.hol_model_sessions.specs.CommandGrammar.{newconst_command}
-use Rattle.hol_script_session.specs.SessionState.{lemmas_of}
-use Rattle.hol_script_session.specs.Answers.{plainly, Says}
+use Rattle.hol_script_inference.specs.Sessions.{lemmas_of, plainly, Says}
 use Rattle.hol_script_manager.proofs.Managing.{session_manager, session_turn}
 use Rattle.hol_script_manager.proofs.manager.Manager.newconst.Goals as goal
 

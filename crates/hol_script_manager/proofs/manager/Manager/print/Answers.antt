@@ -1,7 +1,7 @@
 use Rattle.std.proofs.Common.{refl, inr}
 use Rattle.hol_model.specs.declared.fault.Fault.TheVariants.{NoGoal}
 use Rattle.hol_model_sessions.specs.CommandGrammar.{p_command}
-use Rattle.hol_script_session.specs.Answers.{no_tools}
+use Rattle.hol_script_inference.specs.Sessions.{no_tools}
 use Rattle.hol_script_manager.specs.Managers.{state_of}
 use Rattle.hol_script_manager.proofs.GoalTurns.{p_refused}
 use Rattle.hol_script_manager.proofs.Managing.{refuses, unset_there, set_there, p_turn}

@@ -1,7 +1,6 @@
 use Rattle.std.proofs.Common.{refl}
 use Rattle.hol_model_sessions.specs.CommandGrammar.{show_command}
-use Rattle.hol_script_session.specs.SessionState.{lemmas_of}
-use Rattle.hol_script_session.specs.Answers.{plainly, Says}
+use Rattle.hol_script_inference.specs.Sessions.{lemmas_of, plainly, Says}
 use Rattle.hol_script_manager.proofs.Managing.{session_turn}
 use Rattle.hol_script_manager.proofs.manager.Manager.show.Goals as goal
 

@@ -1,5 +1,5 @@
 use Rattle.std.proofs.Common.{refl}
-use Rattle.hol_script_session.specs.declared.reply.Printed.TheVariants.{Goals}
+use Rattle.hol_script_inference.specs.Sessions.{Goals}
 use Rattle.hol_script_manager.proofs.Managing.{shows}
 use Rattle.hol_script_manager.proofs.manager.Manager.shown.Goals as goal
 

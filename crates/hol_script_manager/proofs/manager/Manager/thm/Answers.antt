@@ -1,5 +1,5 @@
 use Rattle.hol_model_sessions.specs.CommandGrammar.{thm_command}
-use Rattle.hol_script_session.specs.Answers.{Says}
+use Rattle.hol_script_inference.specs.Sessions.{Says}
 use Rattle.hol_script_manager.proofs.Managing.{session_manager, session_turn}
 use Rattle.hol_script_manager.proofs.manager.Manager.thm.Goals as goal
 

@@ -1,0 +1,1 @@
+pub use Rattle.hol_script.specs.Managers
