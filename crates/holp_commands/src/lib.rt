@@ -3,7 +3,6 @@
 //! `hol_script::converse` and `hol_check::check`. `logs_are_checked` joins the two: what the checker answers for the log of a run.
 #![tactic(auto)]
 
-mod checking;
 mod command;
 mod console;
 mod conversing;
@@ -14,10 +13,8 @@ mod laws;
 mod options;
 mod output;
 mod refusals;
-mod reviewing;
 mod running;
 mod scripts;
-mod words;
 
 pub use command::run_command;
 pub use laws::logs_are_checked;

@@ -5,7 +5,7 @@ use hol_model::Fault;
 use std::alloc::{AllocError, Global};
 
 /// The version of the program.
-pub(crate) const VERSION: &str = "0.1.0";
+pub const VERSION: &str = "0.1.0";
 
 // An argument that names a file.
 fn file_argument<'a>(alloc: Global, name: &'a str, help: &'a str) -> Arg<'a> {
@@ -93,7 +93,7 @@ fn migrate_words<'a>(alloc: Global) -> Result<Command<'a>, Fault> {
 }
 
 /// The commands with their arguments.
-pub(crate) fn command_line<'a>(alloc: Global) -> Result<Command<'a>, Fault> {
+pub fn command_line<'a>(alloc: Global) -> Result<Command<'a>, Fault> {
     let mut commands = Vec::new(alloc);
     commands.push(run_words(alloc)?)?;
     commands.push(repl_words(alloc)?)?;
@@ -109,7 +109,7 @@ pub(crate) fn command_line<'a>(alloc: Global) -> Result<Command<'a>, Fault> {
 }
 
 /// The value of an argument that clap has asked for; no text where there is none.
-pub(crate) fn value<'a>(matches: &'a ArgMatches<'_>, name: &str) -> &'a str {
+pub fn value<'a>(matches: &'a ArgMatches<'_>, name: &str) -> &'a str {
     match matches.get_str(name) {
         Some(value) => value,
         None => "",

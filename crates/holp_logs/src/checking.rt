@@ -18,7 +18,7 @@ fn open(rt: &HostRuntime, name: &str) -> Result<Input, Fault> {
 
 /// What is printed of a log that is accepted.
 #[derive(Clone, Copy)]
-pub(crate) enum Listing {
+pub enum Listing {
     /// Its claims and their number.
     Claims,
     /// The entries of its theory, then its claims and their number.
@@ -28,7 +28,7 @@ pub(crate) enum Listing {
 }
 
 /// Checks a log, and prints what is to be listed of it.
-pub(crate) fn check_file(rt: &HostRuntime, log: &str, listing: Listing) -> Result<u64, Fault> {
+pub fn check_file(rt: &HostRuntime, log: &str, listing: Listing) -> Result<u64, Fault> {
     let mut file = open(rt, log)?;
     let reads = Box::new(rt.alloc(), move |buf: &mut [u8]| file.read(buf))?;
     let mut source = FromCall::new(reads);
@@ -70,7 +70,7 @@ fn print_claims(rt: &HostRuntime, claims: &[Claim]) -> Result<u64, Fault> {
 
 /// Checks a log, writes it in the second version to a new file, and prints the number of its claims. The log is read to
 /// its end before the new file is made, and the file is made for an accepted log alone.
-pub(crate) fn migrate_file(rt: &HostRuntime, log: &str, new: &str) -> Result<u64, Fault> {
+pub fn migrate_file(rt: &HostRuntime, log: &str, new: &str) -> Result<u64, Fault> {
     let mut file = open(rt, log)?;
     let reads = Box::new(rt.alloc(), move |buf: &mut [u8]| file.read(buf))?;
     let claims = migrate(
