@@ -1,12 +1,15 @@
 -- Instances of lemmas, and what is past the limits on the way.
-use Rattle.std.proofs.Common.{◌≡◌, List, [], ◌∷◌, ◌++◌, map, Bool, true, false, ◌&&◌, refl, ◌∙◌, ap, subst, Result, append-nil}
+use Rattle.std.proofs.Common.{◌≡◌, List, [], ◌∷◌, ◌++◌, map, Bool, true, false, ◌&&◌, refl, sym, ◌∙◌, ap, subst, inl, inr, Result, append-nil}
 use Rattle.std.specs.List.{list_all}
 use Rattle.hol_model.specs.declared.fault.Fault.{Fault}
-use Rattle.hol_model.specs.Terms.Nameless.{Nameless}
-use Rattle.hol_model.specs.Logic.Derivable.{without}
+use Rattle.hol_model.specs.Terms.NamedTerm.{NamedTerm}
+use Rattle.hol_model.specs.Terms.Nameless.{Nameless, image}
+use Rattle.hol_model.specs.Logic.Derivable.{IsMember, without}
+use Rattle.hol_model.specs.Kernel.Theorem.{Theorem, without_hypothesis}
 use Rattle.hol_model.proofs.Tests.{first_of_both, second_of_both, same_term-Decides}
+use Rattle.hol_kernel.specs.Fits.{DeductFits}
 use Rattle.hol_journal.specs.Journal.{Recorded}
-use Rattle.hol_equal.specs.Sequents.{DerivesIf}
+use Rattle.hol_equal.specs.Sequents.{Shows, DerivesIf}
 
 map-twice : (f g : Nameless → Nameless) (h : List Nameless) → map g (map f h) ≡ map (λ t. g (f t)) h
 map-twice f g [] = refl
@@ -41,6 +44,16 @@ without-itself h p = ap (λ l. h ++ l) none ∙ append-nil h
   where
     none : without p (p ∷ []) ≡ []
     none = rw ((same_term-Decides p p).1 refl) refl
+
+-- nor does a hypothesis stay where each is the first theorem's conclusion
+pub premise-fits : (first second : Theorem) (p q : Nameless) → image first.conclusion ≡ p → Shows second (p ∷ []) q → DeductFits first second
+premise-fits first second p q is shown = record {
+  none_stays = none second.hypotheses (λ t m. elim (shown.same_set.back t m) [ inl e ↦ e ∙ sym is | inr k ↦ absurd k ]);
+}
+  where
+    none : (hypotheses : List NamedTerm) → ((t : Nameless) → IsMember t (map image hypotheses) → t ≡ image first.conclusion) → without_hypothesis first.conclusion hypotheses ≡ []
+    none [] each = refl
+    none (h ∷ hypotheses) each = rw ((same_term-Decides (image h) (image first.conclusion)).1 (each (image h) (inl refl))) (none hypotheses (λ t m. each t (inr m)))
 
 pub derives-same : (fits : Bool) (result : Result Recorded Fault) (h k : List Nameless) (c : Nameless) → h ≡ k → DerivesIf fits result h c → DerivesIf fits result k c
 derives-same fits result h k c same derives = subst (λ (l : List Nameless). DerivesIf fits result l c) same derives

@@ -6,7 +6,7 @@ use Rattle.std.specs.Option.{is_some}
 use Rattle.std.specs.List.{list_all}
 use Rattle.std.proofs.lemmas.Slice.Eq.{bytes_eq-Decides}
 use Rattle.hol_model.specs.declared.fault.Fault.{Fault}
-use Rattle.hol_model.specs.declared.fault.Fault.TheVariants.{TooLarge, NotAlpha, NotEquation, TypeMismatch}
+use Rattle.hol_model.specs.declared.fault.Fault.TheVariants.{TooLarge, NotAlpha, NotEquation, TypeMismatch, UnknownType, FreeInHypothesis}
 use Rattle.hol_model.specs.Terms.HolType.{HolType, bool_type, function_type}
 use Rattle.hol_model.specs.Terms.NamedTerm.{NamedTerm, variable, constant, combination, abstraction, type_of, dest_variable, is_free, equality, equation, is_within_limits}
 use Rattle.hol_model.specs.Terms.Nameless.{Nameless, free, app, lam, HasType, image, same_term}
@@ -19,7 +19,7 @@ use Rattle.hol_model.specs.Kernel.Instantiation.{IsChanged, all_fit, or_too_larg
 use Rattle.hol_model.specs.Kernel.Rules.{first_unknown, is_formula, dest_equation, dest_trivial_redex, is_free_in_hypotheses, concluded, refl_outcome}
 use Rattle.hol_model.specs.Kernel.Rules.{assume_outcome, trans_outcome, eq_mp_outcome, mk_comb_outcome, abs_outcome, deduct_antisym_outcome}
 use Rattle.hol_model.specs.Kernel.Rules.{beta_outcome}
-use Rattle.hol_model.specs.Logic.KnownTerm.{knows_types, knows_constants, has_instances, is_known}
+use Rattle.hol_model.specs.Logic.KnownTerm.{knows_type, knows_types, knows_constants, has_instances, is_known}
 use Rattle.hol_model.specs.Terms.Substitution.{close}
 use Rattle.hol_model.proofs.Terms.NamedTests.{is_known-Decides}
 use Rattle.hol_model.proofs.Terms.TypeTests.{knows_type-Decides}
@@ -388,6 +388,25 @@ abs-derives result theory binder theorem is answers h name domain codomain s t b
     (abstraction-typed name domain codomain e.left e.left_typed) (abstraction-typed name domain codomain e.right e.right_typed)
     (image-abstraction name domain e.left ∙ (λ i. lam domain (close name domain (e.left_image i)))) (image-abstraction name domain e.right ∙ (λ i. lam domain (close name domain (e.right_image i))))
     shown.same_set (abs_outcome theory binder theorem) (abs-concluded theory binder theorem name domain e.left e.right (binder_is binder name domain binds) e.dest knows not_there) answers
+
+pub abs-concludes : (result : Result Recorded Fault) (theory : Theory) (binder : NamedTerm) (theorem : Theorem) → IsTheorem theorem → Answers (theorem_in result) (abs_outcome theory binder theorem)
+    → IfOk result (λ made. (name : List ℕ) (domain codomain : HolType) (s t : Nameless) → image binder ≡ free name domain → image theorem.conclusion ≡ nameless_equation codomain s t
+    → image made.theorem.conclusion ≡ nameless_equation (function_type domain codomain) (lam domain (close name domain s)) (lam domain (close name domain t)))
+abs-concludes (Ok made) theory binder theorem is answers = λ name domain codomain s t binds shown.
+    let e = shown_sides theorem is codomain s t shown in
+    let left = abstraction name domain e.left in
+    let right = abstraction name domain e.right in
+    let whole = equation left right in
+    let next = concluded theory theorem.hypotheses whole in
+    let fresh = not (is_free_in_hypotheses name domain theorem.hypotheses) in
+    let outcome : unless (knows_type theory domain) UnknownType (unless fresh FreeInHypothesis next) ≡ Ok made.theorem = rw (binder_is binder name domain binds, e.dest) at answers in
+    let passed = (unless-is (knows_type theory domain) UnknownType (unless fresh FreeInHypothesis next) made.theorem outcome).1 in
+    let named = ap (λ (t : Theorem). t.conclusion) (concluded-is theory theorem.hypotheses whole made.theorem (unless-is fresh FreeInHypothesis next made.theorem passed).1) in
+    let left_is : image left ≡ lam domain (close name domain s) = image-abstraction name domain e.left ∙ (λ i. lam domain (close name domain (e.left_image i))) in
+    let right_is : image right ≡ lam domain (close name domain t) = image-abstraction name domain e.right ∙ (λ i. lam domain (close name domain (e.right_image i))) in
+    ap image named ∙ image-equation left right (function_type domain codomain) (abstraction-typed name domain codomain e.left e.left_typed)
+    ∙ (λ i. nameless_equation (function_type domain codomain) (left_is i) (right_is i))
+abs-concludes (Err fault) theory binder theorem is answers = tt
 
 -- DEDUCT_ANTISYM_RULE
 pub deduct-stands : (theory : Theory) (first second : Theorem) → StandsOn theory (deduct_antisym_outcome theory first second)

@@ -1,4 +1,5 @@
 pub mod Sequents
+pub mod Fits
 pub mod Room
 pub mod Formulas
 pub mod Conversions

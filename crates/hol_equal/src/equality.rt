@@ -11,6 +11,7 @@ ghost use Rattle.hol_model.specs.Terms.Measures.{nameless_within_limits};
 ghost use Rattle.hol_model.specs.Logic.Derivable.{without, nameless_equation};
 ghost use Rattle.hol_model.specs.Derived.DerivedRules.{AnswersStated, terms_of_theorem, sym_outcome, add_assum_outcome, prove_hyp_outcome, beta_conv_outcome};
 ghost use Rattle.hol_model.specs.Derived.InferenceRules.{rule_sym, rule_add_assum, rule_prove_hyp, rule_beta_conv};
+ghost use Rattle.hol_kernel.specs.Fits.{DeductFits};
 ghost use Rattle.hol_journal.specs.Journal.{IsMade, theorem_in};
 ghost use Rattle.hol_equal.specs.Formulas.{IsFormula};
 ghost use Rattle.hol_equal.specs.Sequents.{Shows, DerivesIf, Continues};
@@ -184,6 +185,27 @@ pub fn cut(recorder: &mut Recorder, alloc: Global, first: &Rec, second: &Rec) ->
     let _first = recorder.thm(first).concl();
     let _second = recorder.thm(second).concl();
     let equivalence = steps::deduct_antisym(recorder, alloc, first, second)?;
+    steps::eq_mp_known(recorder, alloc, &equivalence, first)
+}
+
+/// From `p` and `q`, `q`, as `cut`, where the second theorem has no hypothesis but `p`, which is not compared for it.
+pub fn cut_known(
+    recorder: &mut Recorder,
+    alloc: Global,
+    first: &Rec,
+    second: &Rec,
+) -> Result<Rec, Fault>
+    requires first { IsMade recorder.old first.now }
+    requires second { IsMade recorder.old second.now }
+    requires fits { DeductFits first.now.theorem second.now.theorem }
+    ensures continues { Continues recorder.old recorder.new result }
+    ensures names { IfOk result (λ made. made.theorem.conclusion ≡ second.now.theorem.conclusion) }
+    ensures derives { (h k : List Nameless) (p q : Nameless) → Shows first.now.theorem h p → Shows second.now.theorem k q
+        → DerivesIf (nameless_within_limits (nameless_equation bool_type p q)) result (h ++ without p k) q }
+{
+    let _first = recorder.thm(first).concl();
+    let _second = recorder.thm(second).concl();
+    let equivalence = steps::deduct_antisym_known(recorder, alloc, first, second)?;
     steps::eq_mp_known(recorder, alloc, &equivalence, first)
 }
 

@@ -9,8 +9,9 @@ ghost use Rattle.hol_model.specs.Kernel.Instantiation.{instantiate_all, replacem
 ghost use Rattle.hol_model.specs.Logic.Derivable.{nameless_equation};
 ghost use Rattle.hol_journal.specs.Journal.{IsMade};
 ghost use Rattle.hol_equal.specs.Sequents.{Shows, DerivesIf, Continues, instance_of};
+ghost use Rattle.hol_equal.specs.Fits.{LemmaFits};
 
-use crate::equality::cut;
+use crate::equality::{cut, cut_known};
 use crate::steps;
 use hol_journal::{Rec, Recorder};
 use hol_model::Fault;
@@ -85,7 +86,8 @@ pub fn by_lemma(
 }
 
 /// From the lemma's hypothesis at an instance, its conclusion there, as `by_lemma`, by terms that the theory knows and
-/// which are not walked for it.
+/// which are not walked for it. Compares the premise with the hypothesis; where a proof shows that it fits,
+/// `by_fitting_lemma`.
 pub fn by_lemma_known(
     recorder: &mut Recorder,
     alloc: Global,
@@ -106,4 +108,30 @@ pub fn by_lemma_known(
 {
     let stated = instance_known(recorder, alloc, types, terms, lemma)?;
     cut(recorder, alloc, premise, &stated)
+}
+
+/// From the lemma's hypothesis at an instance, its conclusion there, as `by_lemma_known`, where the premise fits: it is not
+/// compared with the hypothesis.
+pub fn by_fitting_lemma(
+    recorder: &mut Recorder,
+    alloc: Global,
+    types: &[(Ty, Ty)],
+    terms: &[(Term, Term)],
+    lemma: &Rec,
+    premise: &Rec,
+) -> Result<Rec, Fault>
+    requires lemma { IsMade recorder.old lemma.now }
+    requires premise { IsMade recorder.old premise.now }
+    requires types { type_replacements_refusal recorder.old.theory types.now ≡ None }
+    requires known { replacements_refusal recorder.old.theory terms.now ≡ None }
+    requires fits { LemmaFits types.now terms.now lemma.now.theorem premise.now.theorem }
+    ensures continues { Continues recorder.old recorder.new result }
+    ensures derives { type_replacements_refusal recorder.old.theory types.now ≡ None → replacements_refusal recorder.old.theory terms.now ≡ None
+        → (h : List Nameless) (p c : Nameless) → Shows lemma.now.theorem (p ∷ []) c → Shows premise.now.theorem h (instance_of types.now terms.now p)
+        → DerivesIf (list_all nameless_within_limits (instantiate_all types.now c ∷ instantiate_all types.now p ∷ instance_of types.now terms.now c
+        ∷ instance_of types.now terms.now p ∷ nameless_equation bool_type (instance_of types.now terms.now p) (instance_of types.now terms.now c)
+        ∷ [])) result h (instance_of types.now terms.now c) }
+{
+    let stated = instance_known(recorder, alloc, types, terms, lemma)?;
+    cut_known(recorder, alloc, premise, &stated)
 }

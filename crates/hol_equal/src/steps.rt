@@ -12,7 +12,7 @@ ghost use Rattle.hol_model.specs.Logic.KnownTerm.{is_known};
 ghost use Rattle.hol_model.specs.Kernel.Theorem.{IsTheorem};
 ghost use Rattle.hol_model.specs.Derived.DerivedRules.{HasLeftSide};
 ghost use Rattle.hol_model.specs.Logic.Derivable.{NotFreeInAny, without, nameless_equation};
-ghost use Rattle.hol_kernel.specs.Fits.{TransFits, EqMpFits};
+ghost use Rattle.hol_kernel.specs.Fits.{TransFits, EqMpFits, DeductFits};
 ghost use Rattle.hol_journal.specs.Journal.{IsMade, theorem_in};
 ghost use Rattle.hol_equal.specs.Formulas.{IsFormula};
 ghost use Rattle.hol_equal.specs.Sequents.{Shows, Derives, DerivesInstance, Gives, Continues};
@@ -214,6 +214,26 @@ pub fn deduct_antisym(
     recorder.deduct_antisym(alloc, first, second)
 }
 
+/// DEDUCT_ANTISYM_RULE, where the second theorem has no hypothesis but the first conclusion, which is not compared for it.
+pub fn deduct_antisym_known(
+    recorder: &mut Recorder,
+    alloc: Global,
+    first: &Rec,
+    second: &Rec,
+) -> Result<Rec, Fault>
+    requires first { IsMade recorder.old first.now }
+    requires second { IsMade recorder.old second.now }
+    requires fits { DeductFits first.now.theorem second.now.theorem }
+    ensures continues { Continues recorder.old recorder.new result }
+    ensures names { IfOk result (λ made. made.theorem.conclusion ≡ equation first.now.theorem.conclusion second.now.theorem.conclusion) }
+    ensures derives { (h k : List Nameless) (p q : Nameless) → Shows first.now.theorem h p → Shows second.now.theorem k q
+        → Derives result (without q h ++ without p k) (nameless_equation bool_type p q) }
+{
+    let _first = recorder.thm(first).concl();
+    let _second = recorder.thm(second).concl();
+    recorder.deduct_antisym_known(alloc, first, second)
+}
+
 /// ABS of a theorem that shows a sequent, over a variable of a known type that is free in no hypothesis.
 pub fn abs(
     recorder: &mut Recorder,
@@ -223,6 +243,9 @@ pub fn abs(
 ) -> Result<Rec, Fault>
     requires { IsMade recorder.old premise.now }
     ensures continues { Continues recorder.old recorder.new result }
+    ensures concludes { IfOk result (λ made. (name : List ℕ) (domain codomain : HolType) (s t : Nameless) → image binder.now ≡ free name domain
+        → image premise.now.theorem.conclusion ≡ nameless_equation codomain s t → image made.theorem.conclusion
+        ≡ nameless_equation (function_type domain codomain) (lam domain (close name domain s)) (lam domain (close name domain t))) }
     ensures derives { (h : List Nameless) (name : List ℕ) (domain codomain : HolType) (s t : Nameless) → image binder.now ≡ free name domain
         → IsKnownType recorder.old.theory domain → NotFreeInAny name domain h → Shows premise.now.theorem h (nameless_equation codomain s t)
         → Derives result h (nameless_equation (function_type domain codomain) (lam domain (close name domain s)) (lam domain (close name domain t))) }

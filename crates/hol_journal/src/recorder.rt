@@ -7,7 +7,7 @@ ghost use Rattle.hol_model.specs.Logic.Theory.{IsLegal};
 ghost use Rattle.hol_model.specs.Logic.KnownTerm.{is_known};
 ghost use Rattle.hol_model.specs.Kernel.Rules as outcome;
 ghost use Rattle.hol_kernel.specs.KnownFormula.{IsKnownFormula};
-ghost use Rattle.hol_kernel.specs.Fits.{TransFits, EqMpFits};
+ghost use Rattle.hol_kernel.specs.Fits.{TransFits, EqMpFits, DeductFits};
 ghost use Rattle.hol_kernel.specs.Leaving.{leaving};
 ghost use Rattle.hol_model.specs.declared.fault.Fault.TheVariants.{Memory};
 ghost use Rattle.hol_journal.specs.Steps as steps;
@@ -268,6 +268,30 @@ impl Recorder {
         self.record(alloc, Rule::EqMp(first.entry, second.entry), theorem)
     }
 
+    // DEDUCT_ANTISYM_RULE's theorem of the two, with an entry.
+    fn record_deduct(
+        &mut self,
+        alloc: Global,
+        first: &Rec,
+        second: &Rec,
+        theorem: Thm,
+    ) -> Result<Rec, Fault>
+        requires first { IsMade self.old first.now }
+        requires second { IsMade self.old second.now }
+        requires outcome { outcome.deduct_antisym_outcome self.old.theory first.now.theorem second.now.theorem ≡ Ok theorem }
+        requires stands_on { theorem.theory ≡ self.old.theory }
+        ensures ok { IfOk result (λ made. made.theorem ≡ theorem) }
+        ensures recorded { IfOk result (IsRecorded self.old self.new (steps.by_deduct first.now.entry second.now.entry)) }
+        ensures err { IfErr result (λ fault. fault ≡ Memory) }
+        ensures kept { OnErr result (self.new ≡ self.old) }
+    {
+        within_limits(&theorem);
+        let _first = first.theorem.concl();
+        let _second = second.theorem.concl();
+        let rule = Rule::DeductAntisym(first.entry, second.entry);
+        self.record(alloc, rule, theorem)
+    }
+
     // An instance of the theorem by INST, with an entry.
     fn record_inst(
         &mut self,
@@ -424,7 +448,8 @@ impl Recorder {
         self.record(alloc, Rule::MkComb(first.entry, second.entry), theorem)
     }
 
-    /// DEDUCT_ANTISYM_RULE: from `p` and `q`, `p = q`, each without the other's conclusion among its hypotheses.
+    /// DEDUCT_ANTISYM_RULE: from `p` and `q`, `p = q`, each without the other's conclusion among its hypotheses. Where a
+    /// proof shows that the second theorem has none but the first conclusion, `deduct_antisym_known`.
     pub fn deduct_antisym(&mut self, alloc: Global, first: &Rec, second: &Rec) -> Result<Rec, Fault>
         requires first { IsMade self.old first.now }
         requires second { IsMade self.old second.now }
@@ -435,14 +460,28 @@ impl Recorder {
         let theorem = self
             .theory
             .deduct_antisym(alloc, &first.theorem, &second.theorem)?;
-        within_limits(&theorem);
-        let _first = first.theorem.concl();
-        let _second = second.theorem.concl();
-        self.record(
-            alloc,
-            Rule::DeductAntisym(first.entry, second.entry),
-            theorem,
-        )
+        self.record_deduct(alloc, first, second, theorem)
+    }
+
+    /// DEDUCT_ANTISYM_RULE, where the second theorem has no hypothesis but the first conclusion, which is not compared for
+    /// it.
+    pub fn deduct_antisym_known(
+        &mut self,
+        alloc: Global,
+        first: &Rec,
+        second: &Rec,
+    ) -> Result<Rec, Fault>
+        requires first { IsMade self.old first.now }
+        requires second { IsMade self.old second.now }
+        requires fits { DeductFits first.now.theorem second.now.theorem }
+        ensures outcome { Answers (theorem_in result) (outcome.deduct_antisym_outcome self.old.theory first.now.theorem second.now.theorem) }
+        ensures recorded { IfOk result (IsRecorded self.old self.new (steps.by_deduct first.now.entry second.now.entry)) }
+        ensures kept { OnErr result (self.new ≡ self.old) }
+    {
+        let theorem = self
+            .theory
+            .deduct_antisym_known(alloc, &first.theorem, &second.theorem)?;
+        self.record_deduct(alloc, first, second, theorem)
     }
 
     /// ABS: from `s = t`, `(\x. s) = (\x. t)`, where `x` is free in no hypothesis.

@@ -26,9 +26,9 @@ use Rattle.hol_model.specs.Kernel.NamedAxioms.{eta_conclusion, select_hypothesis
 use Rattle.hol_model.specs.Kernel.Outcome.{Answers}
 use Rattle.hol_model.specs.Kernel.Theorem.{Theorem, IsTheorem, are_alpha_equivalent, with_hypotheses, without_hypothesis}
 use Rattle.hol_model.specs.Kernel.Rules.{first_unknown, dest_equation, dest_trivial_redex, is_formula, is_free_in_hypotheses, concluded}
-use Rattle.hol_model.specs.Kernel.Rules.{assume_outcome, mk_comb_outcome, abs_outcome, trans_outcome, eq_mp_outcome}
+use Rattle.hol_model.specs.Kernel.Rules.{assume_outcome, mk_comb_outcome, abs_outcome, trans_outcome, eq_mp_outcome, deduct_antisym_outcome}
 use Rattle.hol_kernel.specs.KnownFormula.{IsKnownFormula}
-use Rattle.hol_kernel.specs.Fits.{TransFits, EqMpFits}
+use Rattle.hol_kernel.specs.Fits.{TransFits, EqMpFits, DeductFits}
 use Rattle.hol_kernel.proofs.KnownLemmas.{no_unknown, known_where_none}
 use Rattle.hol_kernel.proofs.HypothesesLemmas.{with_hypotheses-same_set, image-without_hypothesis}
 use Rattle.hol_kernel.proofs.LimitLemmas.{equation-typed}
@@ -424,6 +424,14 @@ module _ (theory : Theory) (legal : IsLegal theory) where
         ordered = with_hypotheses-ordered left right (kept-ordered (λ hypothesis. not (are_alpha_equivalent hypothesis q)) first.hypotheses is_first.ordered);
       }
 
+  pub deduct_antisym_known-theorem : (first second : Theorem) → IsEarlier first.theory theory → IsEarlier second.theory theory → IsTheorem first → IsTheorem second → DeductFits first second
+      → IsTheorem (record { theory = theory; hypotheses = without_hypothesis second.conclusion first.hypotheses; conclusion = equation first.conclusion second.conclusion })
+  deduct_antisym_known-theorem first second earlier_first earlier_second is_first is_second fits =
+      let left = without_hypothesis second.conclusion first.hypotheses in
+      let whole = equation first.conclusion second.conclusion in
+      subst (λ (right : List NamedTerm). IsTheorem (record { theory = theory; hypotheses = with_hypotheses left right; conclusion = whole })) fits.none_stays
+      (deduct_antisym-theorem first second earlier_first earlier_second is_first is_second)
+
 -- what the rules on two sides come to, where nothing but the limits can refuse
 
 pub trans-concluded : (theory : Theory) (first second : Theorem) (a b m c : NamedTerm) → dest_equation first.conclusion ≡ Some (a, b) → dest_equation second.conclusion ≡ Some (m, c)
@@ -443,6 +451,11 @@ pub abs-concluded : (theory : Theory) (binder : NamedTerm) (theorem : Theorem) (
     → dest_equation theorem.conclusion ≡ Some (a, b) → knows_type theory ty ≡ true → is_free_in_hypotheses name ty theorem.hypotheses ≡ false
     → abs_outcome theory binder theorem ≡ concluded theory theorem.hypotheses (equation (abstraction name ty a) (abstraction name ty b))
 abs-concluded theory binder theorem name ty a b is_binder dest known fresh = rw (is_binder, dest, known, fresh) refl
+
+pub deduct_antisym-concluded : (theory : Theory) (first second : Theorem) → DeductFits first second
+    → deduct_antisym_outcome theory first second ≡ concluded theory (without_hypothesis second.conclusion first.hypotheses) (equation first.conclusion second.conclusion)
+deduct_antisym-concluded theory first second fits =
+    ap (λ right. concluded theory (with_hypotheses (without_hypothesis second.conclusion first.hypotheses) right) (equation first.conclusion second.conclusion)) fits.none_stays
 
 -- the outcome of a rule that ends in an equation, as the program makes its parts
 pub answers-alike : (result outcome : Result Theorem Fault) (theory entries : Theory) (hypotheses items : List NamedTerm) (conclusion term : NamedTerm)

@@ -10,7 +10,7 @@ ghost use Rattle.hol_model.specs.Kernel.Theorem.{IsTheorem};
 ghost use Rattle.hol_model.specs.Kernel.Rules as outcome;
 ghost use Rattle.hol_model.specs.Kernel.Outcome.{Answers};
 ghost use Rattle.hol_kernel.specs.KnownFormula.{IsKnownFormula};
-ghost use Rattle.hol_kernel.specs.Fits.{TransFits, EqMpFits};
+ghost use Rattle.hol_kernel.specs.Fits.{TransFits, EqMpFits, DeductFits};
 
 use crate::entries::Entries;
 use crate::equation::{
@@ -260,7 +260,8 @@ impl Theory {
     }
 
     /// DEDUCT_ANTISYM_RULE: from `p` and `q`, `p = q`, each without the other's conclusion among its hypotheses. TooLarge
-    /// where the equation is past the limits.
+    /// where the equation is past the limits. Looks for each conclusion among the other's hypotheses; where a proof shows
+    /// that the second theorem has none but the first conclusion, `deduct_antisym_known`.
     pub fn deduct_antisym(&self, alloc: Global, first: &Thm, second: &Thm) -> Result<Thm, Fault>
         requires first { IsEarlier first.now.theory self.now }
         requires second { IsEarlier second.now.theory self.now }
@@ -271,6 +272,25 @@ impl Theory {
         let from_first = without_hypothesis(alloc, second.concl(), first.hyps())?;
         let from_second = without_hypothesis(alloc, first.concl(), second.hyps())?;
         let hypotheses = with_hypotheses(alloc, &from_first, &from_second)?;
+        equation_theorem(alloc, entries, hypotheses, first.concl(), second.concl())
+    }
+
+    /// DEDUCT_ANTISYM_RULE, where the second theorem has no hypothesis but the first conclusion, which is not compared for
+    /// it. TooLarge as `deduct_antisym`.
+    pub fn deduct_antisym_known(
+        &self,
+        alloc: Global,
+        first: &Thm,
+        second: &Thm,
+    ) -> Result<Thm, Fault>
+        requires first { IsEarlier first.now.theory self.now }
+        requires second { IsEarlier second.now.theory self.now }
+        requires fits { DeductFits first.now second.now }
+        ensures outcome { Answers result (outcome.deduct_antisym_outcome self.now first.now second.now) }
+        ensures stands_on { IfOk result (λ answer. answer.theory ≡ self.now) }
+    {
+        let entries = self.entries();
+        let hypotheses = without_hypothesis(alloc, second.concl(), first.hyps())?;
         equation_theorem(alloc, entries, hypotheses, first.concl(), second.concl())
     }
 }

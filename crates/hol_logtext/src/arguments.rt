@@ -134,9 +134,8 @@ pub(crate) fn number_and_pairs(
     let Some(number) = number_in(*number) else {
         return Ok(None);
     };
-    match pairs(alloc, rest) {
-        Ok(Some(pairs)) => Ok(Some((number, pairs))),
-        Ok(None) => Ok(None),
-        Err(error) => Err(error),
+    match pairs(alloc, rest)? {
+        Some(pairs) => Ok(Some((number, pairs))),
+        None => Ok(None),
     }
 }

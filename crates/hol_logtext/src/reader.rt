@@ -104,10 +104,9 @@ fn claim_of<'a>(
     let Some(conclusion) = number_in(conclusion) else {
         return Ok(None);
     };
-    match numbers(alloc, hypotheses) {
-        Ok(Some(hypotheses)) => Ok(Some(Line::Claim(name, theorem, conclusion, hypotheses))),
-        Ok(None) => Ok(None),
-        Err(error) => Err(error),
+    match numbers(alloc, hypotheses)? {
+        Some(hypotheses) => Ok(Some(Line::Claim(name, theorem, conclusion, hypotheses))),
+        None => Ok(None),
     }
 }
 
@@ -128,10 +127,9 @@ fn theorem<'a>(alloc: Global, fields: &[&'a [u8]]) -> Result<Option<Line<'a>>, A
     let Some((word, arguments)) = fields.split_first() else {
         return Ok(None);
     };
-    match rule(alloc, *word, arguments) {
-        Ok(Some(rule)) => Ok(Some(Line::Theorem(rule))),
-        Ok(None) => Ok(None),
-        Err(error) => Err(error),
+    match rule(alloc, *word, arguments)? {
+        Some(rule) => Ok(Some(Line::Theorem(rule))),
+        None => Ok(None),
     }
 }
 
@@ -204,10 +202,9 @@ fn read_fields<'a>(
     let Some((word, arguments)) = fields.split_first() else {
         return Ok(Err(Cause::Shape));
     };
-    match line(alloc, *word, arguments) {
-        Ok(Some(line)) => Ok(Ok(line)),
-        Ok(None) => Ok(Err(Cause::Shape)),
-        Err(error) => Err(error),
+    match line(alloc, *word, arguments)? {
+        Some(line) => Ok(Ok(line)),
+        None => Ok(Err(Cause::Shape)),
     }
 }
 

@@ -90,16 +90,14 @@ pub(crate) fn rule<'a>(
     ensures { IfOk result (λ found. rule_in found ≡ reading.rule_of_word word.now (fields_in fields.now)) }
 {
     if is_word(word, "INST") {
-        match number_and_pairs(alloc, fields) {
-            Ok(Some((i, pairs))) => Ok(Some(Rule::Inst(i, pairs))),
-            Ok(None) => Ok(None),
-            Err(error) => Err(error),
+        match number_and_pairs(alloc, fields)? {
+            Some((i, pairs)) => Ok(Some(Rule::Inst(i, pairs))),
+            None => Ok(None),
         }
     } else if is_word(word, "INSTTYPE") {
-        match number_and_pairs(alloc, fields) {
-            Ok(Some((i, pairs))) => Ok(Some(Rule::InstType(i, pairs))),
-            Ok(None) => Ok(None),
-            Err(error) => Err(error),
+        match number_and_pairs(alloc, fields)? {
+            Some((i, pairs)) => Ok(Some(Rule::InstType(i, pairs))),
+            None => Ok(None),
         }
     } else {
         Ok(entry(word, fields))

@@ -1,16 +1,17 @@
 -- What the constructors of terms answer is the meaning of a node.
 use Rattle.std.proofs.Common.{◌≡◌, inl, inr, ⊎_elim, ℕ, List, Bool, true, false, ◌&&◌, Option, None, Some, Result, Ok, Err, is_some, refl, sym, ap, ◌∙◌, subst, arith, if◌then◌else◌}
+use Rattle.std.specs.Prelude.{IfOk, IfErr}
 use Rattle.std.specs.Option.{option_map}
 use Rattle.std.proofs.lemmas.Bool.Decides.{nat_tests}
 use Rattle.hol_model.specs.declared.fault.Fault.{Fault}
-use Rattle.hol_model.specs.declared.fault.Fault.TheVariants.{TooLarge, TypeMismatch, NotInstance}
+use Rattle.hol_model.specs.declared.fault.Fault.TheVariants.{Memory, TooLarge, TypeMismatch, NotInstance}
 use Rattle.hol_model.specs.Terms.HolType.{HolType, bool_type, function_type, type_eq, is_instance}
 use Rattle.hol_model.specs.Terms.NamedTerm.{NamedTerm, variable, abstraction, combination, application_type, type_of, constant, type_fits, is_within_limits}
 use Rattle.hol_model.specs.Kernel.Outcome.{Answers, unless}
 use Rattle.hol_model.specs.Kernel.Rules.{limited, abstraction_outcome}
 use Rattle.hol_model.specs.Kernel.Constructors.{typed_outcome, combination_outcome}
 use Rattle.hol_model.specs.Texts.Reading.{Scope, connective, connective_at, truth_operation, quantifier_type, within_limits, well_typed}
-use Rattle.hol_model.proofs.Terms.HolTypeEq.{type_eq-self}
+use Rattle.hol_model.proofs.Terms.HolTypeEq.{type_eq-self, same_from_type_eq}
 use Rattle.hol_syntax.specs.Building.{limited_constant}
 
 well_typed_is : (term : NamedTerm) (some fits : Bool) → is_some (type_of term) ≡ some → is_within_limits term ≡ fits
@@ -43,6 +44,16 @@ abstracted result binder body name ty s typed is answered =
 -- the type of truth values as the program makes it
 pub truth-is : (truth : HolType) → ◌≡◌ {A = Result HolType Fault} (Ok bool_type) (Ok truth) → bool_type ≡ truth
 truth-is truth made = cc
+
+-- a term whose type passes the test is a truth value
+pub truth_typed : (term : NamedTerm) (ty : HolType) → type_of term ≡ Some ty → type_eq ty bool_type ≡ true → type_of term ≡ Some bool_type
+truth_typed term ty typed same = typed ∙ ap (λ t. Some t) (same_from_type_eq ty bool_type same)
+
+-- a copy of a type that passes the test is the type that it was tested against
+pub copied_type : (copied : Result HolType Fault) (ty tested : HolType) → type_eq ty tested ≡ true → IfOk copied (λ copy. copy ≡ ty) → IfErr copied (λ fault. fault ≡ Memory)
+    → Answers copied (Ok tested)
+copied_type (Ok copy) ty tested same is _ = ap (λ t. Ok t) (sym (same_from_type_eq ty tested same) ∙ sym is)
+copied_type (Err fault) ty tested same _ memory = inl memory
 
 -- a term with a part that is too large is too large
 pub large_argument : (f a : NamedTerm) → is_within_limits a ≡ false → is_within_limits (combination f a) ≡ false

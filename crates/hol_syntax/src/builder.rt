@@ -1,6 +1,6 @@
 // The makers of a term's nodes: each answers the term or the node's first refusal.
-ghost use Rattle.std.specs.Prelude.{MatchOption, IsFalse, IsTrue, ◌≡◌, List, ℕ, Some, codes};
-ghost use Rattle.hol_model.specs.Terms.HolType.{HolType, function_type, bool_type};
+ghost use Rattle.std.specs.Prelude.{MatchOption, IsFalse, IsTrue, ◌≡◌, List, ℕ, Some, Ok, codes};
+ghost use Rattle.hol_model.specs.Terms.HolType.{HolType, type_eq};
 ghost use Rattle.hol_model.specs.Terms.Name as names;
 ghost use Rattle.hol_model.specs.Terms.NamedTerm.{variable, abstraction, constant, combination, equation, type_of};
 ghost use Rattle.hol_model.specs.Logic.Theory.{choice_name, choice_type};
@@ -36,8 +36,7 @@ fn join_truths(alloc: Global, operator: &Term, left: &Term, right: &Term) -> Res
     requires { type_of operator.now ≡ Some truth_operation }
     ensures { Answers result (well_typed (combination (combination operator.now left.now) right.now)) }
 {
-    let truth = Ty::boolean(alloc)?;
-    if !truth.eq(left.ty()) || !truth.eq(right.ty()) {
+    if !left.ty().is_bool() || !right.ty().is_bool() {
         return Err(Fault::TypeMismatch);
     }
     let applied = Term::mk_comb(alloc, operator, left)?;
@@ -51,6 +50,29 @@ fn truth_operation_type(alloc: Global) -> Result<Ty, Fault>
     let truth = Ty::boolean(alloc)?;
     let predicate = Ty::fun(alloc, &truth, &truth)?;
     Ty::fun(alloc, &truth, &predicate)
+}
+
+// Whether the type is that of the connectives between truth values.
+fn is_truth_operation(ty: &Ty) -> bool
+    ensures { result ≡ type_eq ty.now truth_operation }
+{
+    let Some((left, predicate)) = ty.dest_fun() else {
+        return false;
+    };
+    let Some((right, answer)) = predicate.dest_fun() else {
+        return false;
+    };
+    left.is_bool() && right.is_bool() && answer.is_bool()
+}
+
+// The type of the connectives between truth values, as a copy of the given type where that is the same.
+fn shared_truth_operation(alloc: Global, ty: &Ty) -> Result<Ty, Fault>
+    ensures { Answers result (Ok truth_operation) }
+{
+    if is_truth_operation(ty) {
+        return ty.copy(alloc);
+    }
+    truth_operation_type(alloc)
 }
 
 /// A variable with its type.
@@ -118,7 +140,7 @@ fn join_known(
     let Some(generic) = scope.const_type(name) else {
         return Err(Fault::UnknownConst);
     };
-    let ty = truth_operation_type(alloc)?;
+    let ty = shared_truth_operation(alloc, generic)?;
     if !is_instance(generic, &ty) {
         return Err(Fault::NotInstance);
     }
