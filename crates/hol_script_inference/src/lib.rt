@@ -8,6 +8,7 @@ mod rows;
 mod tautologies;
 mod theorems;
 
+pub use hol_conv::{apply, rewrite};
 pub use hol_script_session::reply::{Printed, Refused, plainly};
 pub use hol_script_session::session::Session;
 pub use theorems::thm;

@@ -35,12 +35,14 @@ use Rattle.hol_model.specs.Terms.NamedTerm.{NamedTerm}
 use Rattle.hol_prelude.specs.HasLogic as prelude
 use Rattle.hol_taut_laws.specs.HasLaws.{HasLaws}
 use Rattle.hol_taut_laws.proofs.LawLemmas.{stands-on-logic}
-use Rattle.hol_goals_prover.specs.Stacks.{IsLibrary, stack_of, KeepsMade}
+use Rattle.hol_theorem_library.specs.Library.{IsLibrary}
+use Rattle.hol_goals.specs.Stages.{stack_of}
+use Rattle.hol_goals.specs.Made.{KeepsMade}
 use Rattle.hol_theorem_store.specs.Stored.{IsStoreOf, theorems_in}
 use Rattle.hol_theorem_store.specs.Store.{stored_of}
 use Rattle.hol_syntax.specs.declared.scope.Scope.{Scope as ScopeHere}
 use Rattle.hol_syntax.specs.Scope.{scope_of}
-use Rattle.hol_goals_prover.specs.Stacks as stacks
+use Rattle.hol_goals.specs.declared.stack.Stack as stacks
 use Rattle.hol_tactic_reading.specs.Reading.{IsTreeRead, AnswersTree}
 use Rattle.hol_script_inference.specs.Sessions.{Printed, theorem_of, lemmas_of, IsSession, Performs, Says, plainly}
 use Rattle.hol_script_inference.specs.Sessions as sessions

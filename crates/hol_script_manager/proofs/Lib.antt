@@ -4,4 +4,5 @@ pub mod Shown
 pub mod Managing
 pub mod SettingGoals
 pub mod Expanding
+pub mod Replayed
 mod Refusing

@@ -30,8 +30,10 @@ use Rattle.hol_just.specs.Steps.{goals_of}
 use Rattle.hol_syntax.specs.Scope.{scope_of}
 use Rattle.hol_theorem_store.specs.Stored.{theorems_in}
 use Rattle.hol_theorem_store.specs.Store.{stored_of}
-use Rattle.hol_goals_prover.specs.Stacks.{stack_of, HasGoals, KeepsMade, kept_stay_made}
-use Rattle.hol_goals_prover.specs.Stacks as stacks
+use Rattle.hol_goals.specs.Stages.{stack_of, HasGoals}
+use Rattle.hol_goals.specs.Made.{KeepsMade}
+use Rattle.hol_goals.proofs.Made.{kept_stay_made}
+use Rattle.hol_goals.specs.declared.stack.Stack as stacks
 use Rattle.hol_script_inference.specs.Sessions as sessions
 use Rattle.hol_script_inference.specs.Sessions.{Session, IsSession, IsLaterLibrary, lemmas_of, Printed, printed_text, printed_name, Performs, Says, plainly}
 use Rattle.hol_script_inference.specs.Sessions.{Beside, with_beside, IsNewName, TestsName, Stores, scope_same, proved}

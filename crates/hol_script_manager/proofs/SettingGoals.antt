@@ -24,8 +24,9 @@ use Rattle.hol_syntax.specs.Scope.{scope_of}
 use Rattle.hol_theorem_store.specs.declared.store.Store as stores
 use Rattle.hol_theorem_store.specs.Stored.{IsStoreOf, KeepsTheorems, theorems_in}
 use Rattle.hol_theorem_store.specs.Store.{stored_of}
-use Rattle.hol_goals_prover.specs.Stacks.{stack_of, KeepsMade}
-use Rattle.hol_goals_prover.specs.Stacks as stacks
+use Rattle.hol_goals.specs.Stages.{stack_of}
+use Rattle.hol_goals.specs.Made.{KeepsMade}
+use Rattle.hol_goals.specs.declared.stack.Stack as stacks
 use Rattle.hol_script_inference.specs.Sessions.{Printed, theorem_of, Performs, no_tools, Says, plainly, printed_text, printed_name}
 use Rattle.hol_script_manager.specs.declared.manager.Manager.{Manager}
 use Rattle.hol_script_manager.specs.Managers.{state_of, IsManager}

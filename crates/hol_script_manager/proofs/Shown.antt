@@ -17,7 +17,7 @@ use Rattle.hol_model.proofs.Tests.{first_of_both, second_of_both}
 use Rattle.hol_model_sessions.specs.ScriptSessions.{State, scope_in, store_in, IsProved, IsReadableGoal, AreReadableGoals, AreShown}
 use Rattle.hol_just.specs.declared.goal.Goal as code
 use Rattle.hol_just.specs.Steps.{goal_of, goals_of}
-use Rattle.hol_goals_prover.specs.Stacks.{HasGoals}
+use Rattle.hol_goals.specs.Stages.{HasGoals}
 use Rattle.hol_script_inference.specs.Sessions.{readable}
 use Rattle.hol_script_manager.specs.GoalTexts.{is_well_formed}
 

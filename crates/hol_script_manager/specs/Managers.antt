@@ -9,7 +9,9 @@ use Rattle.hol_model_sessions.specs.ScriptSessions.{State, scope_in, AreShown}
 use Rattle.hol_theorem_store.specs.Store.{stored_of}
 use Rattle.hol_theorem_store.specs.Stored.{IsStoreOf, KeepsTheorems}
 use Rattle.hol_model.specs.Goals.GoalLaws.{IsValidStack}
-use Rattle.hol_goals_prover.specs.Stacks.{store_in, KeepsMade, stack_of}
+use Rattle.hol_theorem_library.specs.Library.{store_in}
+use Rattle.hol_goals.specs.Stages.{stack_of}
+use Rattle.hol_goals.specs.Made.{KeepsMade}
 use Rattle.hol_script_inference.specs.Sessions as sessions
 use Rattle.hol_laws_sessions.specs.ValidSessions.{IsTold}
 use Rattle.hol_script_manager.specs.declared.manager.Manager.{Manager}

@@ -2,8 +2,8 @@
 use Rattle.std.specs.Prelude.{◌≡◌, refl}
 use Rattle.std.proofs.Common.{◌∙◌}
 use Rattle.hol_journal.proofs.GrowthLemmas.{journals-grow}
-use Rattle.hol_goals_prover.specs.Stacks.{StaysMade}
-use Rattle.hol_goals_prover.specs.Growth.{IsExtended, extended-same, extended-twice}
+use Rattle.hol_goals.specs.Made.{StaysMade}
+use Rattle.hol_refine.specs.Growth.{IsExtended, extended-same, extended-twice}
 use Rattle.hol_script_manager.specs.declared.prover.Prover.{Prover}
 
 -- its library is further: the journal has grown, and lemmas may have come; what names stand for is the same

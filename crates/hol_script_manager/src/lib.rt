@@ -2,10 +2,12 @@
 //! goals do with them.
 #![tactic(auto)]
 
+mod converting;
 mod goal_texts;
 mod laws;
 mod manager;
 mod prover;
+mod proving;
 
 pub use hol_script_inference::{Printed, Refused, plainly};
 pub use laws::managers_refuse;

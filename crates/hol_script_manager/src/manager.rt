@@ -25,7 +25,7 @@ ghost use Rattle.hol_script_manager.specs.Managers.{state_of, journal_of, claims
 
 use crate::goal_texts::{goals_are_well_formed, text_of_goals, text_of_only_goal};
 use crate::prover::Prover;
-use hol_goals_prover::Stack;
+use hol_goals::Stack;
 use hol_host::Refiners;
 use hol_model::{Fault, STEPS_LIMIT};
 use hol_script_commands::command::Asked;

@@ -1,11 +1,14 @@
 // A session as what refiner expressions run on.
 
+use crate::converting::ByExpression;
+use crate::proving::prove;
 use hol_combine::Leaves;
-use hol_goals_prover::{ByExpression, accept, prove, refine};
+use hol_goals::accept;
 use hol_host::Refiners;
 use hol_journal::Rec;
 use hol_just::{Goal, Just, Step};
 use hol_model::Fault;
+use hol_refine::refine;
 use hol_script_inference::Session;
 use hol_tactic_exprs::{Fuel, Leaf};
 use hol_terms::Term;
@@ -18,7 +21,7 @@ pub(crate) struct Prover {
 }
 
 impl Leaves for Prover {
-    ghost use Rattle.hol_goals_prover.specs.Stacks.{IsLibrary, store_in};
+    ghost use Rattle.hol_theorem_library.specs.Library.{IsLibrary, store_in};
     ghost use Rattle.hol_script_manager.specs.Provers.{IsFurther, further-same, further-twice};
 
     ghost theory = { λ prover. prover.session.library.recorder.theory };
@@ -65,7 +68,7 @@ impl Leaves for Prover {
     ghost extends_twice = { λ first second third one two. further-twice first second third one two };
 }
 
-impl hol_goals_prover::Prover for Prover {
+impl hol_goals::Prover for Prover {
     ghost use Rattle.hol_script_manager.specs.Provers.{further-makes};
 
     ghost journal = { λ prover. prover.session.library.recorder };

@@ -8,7 +8,7 @@ use conversions::double_negation;
 use hol_host::Host;
 use hol_just::Goal;
 use hol_model::Fault;
-use hol_script_files::run_file;
+use hol_script::run_file;
 use hol_terms::Term;
 use refiners::{admit, back, conjuncts};
 use std::alloc::Global;

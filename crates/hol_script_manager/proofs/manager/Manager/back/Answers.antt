@@ -2,7 +2,7 @@ use Rattle.std.proofs.lemmas.Result.{err_from_is_err_and}
 use Rattle.hol_model_sessions.specs.CommandGrammar.{b_command}
 use Rattle.hol_model_sessions.specs.ScriptSessions.{store_in}
 use Rattle.hol_laws_goals.proofs.ValidProofs.{back-valid}
-use Rattle.hol_goals_prover.specs.Stacks.{stack_of}
+use Rattle.hol_goals.specs.Stages.{stack_of}
 use Rattle.hol_script_inference.specs.Sessions.{no_tools}
 use Rattle.hol_script_manager.specs.Managers.{state_of}
 use Rattle.hol_script_manager.proofs.GoalTurns.{b_done, b_refused}

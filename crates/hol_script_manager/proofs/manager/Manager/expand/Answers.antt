@@ -1,7 +1,7 @@
 use Rattle.std.proofs.lemmas.Result.{err_from_is_err_and}
 use Rattle.hol_model.specs.declared.limits.TheConstants.{STEPS_LIMIT}
 use Rattle.hol_host.specs.Host.{host_of}
-use Rattle.hol_goals_prover.specs.Stacks.{told_of}
+use Rattle.hol_goals.specs.Expansions.{told_of}
 use Rattle.hol_script_manager.proofs.Expanding.{logic_there, witnesses, e_unread_turn, on_manager, e_unrefined_turn, e_unrefined_manager, e_shown_turn, e_undone_turn, e_undone_manager}
 use Rattle.hol_script_manager.proofs.manager.Manager.expand.Goals as goal
 

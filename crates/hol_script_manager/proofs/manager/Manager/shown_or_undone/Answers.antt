@@ -1,6 +1,6 @@
 use Rattle.std.proofs.Common.{refl}
 use Rattle.hol_model_sessions.specs.ScriptSessions.{store_in}
-use Rattle.hol_goals_prover.specs.Stacks.{stack_of}
+use Rattle.hol_goals.specs.Stages.{stack_of}
 use Rattle.hol_script_manager.specs.Managers.{state_of}
 use Rattle.hol_script_manager.proofs.Managing.{theory_in, journal_in, stack_manager, undone_valid}
 use Rattle.hol_script_manager.proofs.manager.Manager.shown_or_undone.Goals as goal

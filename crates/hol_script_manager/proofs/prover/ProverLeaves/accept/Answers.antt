@@ -1,5 +1,5 @@
 use Rattle.std.proofs.Common.{refl}
-use Rattle.hol_goals_prover.specs.Stacks.{libraries-continue}
+use Rattle.hol_theorem_library.proofs.Continuing.{libraries-continue}
 use Rattle.hol_script_manager.proofs.prover.ProverLeaves.accept.Goals as goal
 
 pub returns-clause-ready : goal.returns-clause-ready

@@ -3,8 +3,8 @@ use Rattle.std.proofs.lemmas.Result.{err_from_is_err_and}
 use Rattle.hol_journal.specs.Journal.{theorem_in}
 use Rattle.hol_just.specs.Steps.{goal_of, tree_of}
 use Rattle.hol_theorem_library.specs.Library.{store_in}
-use Rattle.hol_goals_prover.proofs.Replayed.{not_replayed, replayed}
-use Rattle.hol_goals_prover.proofs.proving.prove.Goals as goal
+use Rattle.hol_script_manager.proofs.Replayed.{not_replayed, replayed}
+use Rattle.hol_script_manager.proofs.proving.prove.Goals as goal
 
 pub returns-in_err-theorem-clause-outcome : goal.returns-in_err-theorem-clause-outcome
 returns-in_err-theorem-clause-outcome c =

@@ -1,10 +1,10 @@
 // The conversions by which refiners convert.
 
-use hol_conv::{apply, rewrite};
 use hol_host::Converters;
 use hol_journal::Rec;
 use hol_model::Fault;
 use hol_refine::Conversions;
+use hol_script_inference::{apply, rewrite};
 use hol_tactic_exprs::{Conv, Fuel};
 use hol_terms::Term;
 use hol_theorem_library::Library;
@@ -12,7 +12,7 @@ use std::alloc::Global;
 
 /// Converts as the expressions of conversions say (hol_conv).
 #[derive(Clone, Copy)]
-pub struct ByExpression;
+pub(crate) struct ByExpression;
 
 impl Conversions for ByExpression {
     fn apply<H: Converters>(

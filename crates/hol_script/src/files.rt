@@ -1,16 +1,15 @@
-//! Scripts that stand in files, run to standard output. At this edge of a program nothing is claimed: what is written is told on
-//! `hol_script::run`.
-#![tactic(auto)]
+// Scripts that stand in files, run to standard output. At this edge of a program nothing is claimed: what is written is told on `run`.
 
+use crate::progress::Progress;
+use crate::runner::run;
 use hol_device_adapters::{FromCall, IntoCall, IntoWrite};
 use hol_host::Refiners;
 use hol_model::Fault;
-use hol_script::{Progress, run};
 use std::fs;
 use std::io::{Read, Write};
 
 /// Runs the script in a file over a host's functions, writes its output to standard output, and makes no log. Refused: ReadFault
-/// where the file cannot be opened; as `hol_script::run`.
+/// where the file cannot be opened; as `run`.
 pub fn run_file<H: Refiners>(rt: &HostRuntime, name: &str, host: &H) -> Result<Progress, Fault> {
     let alloc = rt.alloc();
     let Ok(mut script) = fs::open(rt, name) else {
