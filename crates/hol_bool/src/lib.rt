@@ -22,7 +22,7 @@ pub use formula_terms::{
 };
 pub use implication_rules::{disch, disch_in_room, mp, mp_in_room, undisch};
 pub use middle_rules::excluded_middle;
-pub use negation_rules::{contr, not_elim, not_intro};
+pub use negation_rules::{contr, contr_known, not_elim, not_intro};
 pub use prelude_rules::{pass_formula, pass_known};
 pub use table::primitive_rules_infer;
 pub use truth_rules::{eqt_elim, eqt_intro};

@@ -5,6 +5,7 @@ ghost use Rattle.hol_model.specs.Derived.DerivedRules.{AnswersStated, terms_of_t
 ghost use Rattle.hol_model.specs.Derived.InferenceRules.{rule_contr, rule_not_intro, rule_not_elim};
 ghost use Rattle.hol_journal.specs.Journal.{IsMade, theorem_in};
 ghost use Rattle.hol_prelude.specs.HasLogic.{HasLogic};
+ghost use Rattle.hol_equal.specs.Formulas.{IsFormula};
 ghost use Rattle.hol_equal.specs.Sequents.{Continues};
 ghost use Rattle.hol_equal.specs.Inferred.{Infers};
 
@@ -68,7 +69,8 @@ pub fn not_elim(
 }
 
 /// CONTR: from `F`, `p`, in six steps. Refused where the conclusion is not `F`, then where `p` is not of type `bool`, and
-/// then where the theory does not know a type or a constant of it.
+/// then where the theory does not know a type or a constant of it. Walks `p`; where a proof shows that it is a formula that
+/// the theory knows, `contr_known`.
 #[tactic(auto, using(crate::proofs::InferredRules::infers_contr))]
 pub fn contr(
     recorder: &mut Recorder,
@@ -89,6 +91,31 @@ pub fn contr(
         return Err(Fault::BadShape);
     }
     pass_formula(recorder, p)?;
+    contr_known(recorder, alloc, logic, p, premise)
+}
+
+/// CONTR of a formula that the theory knows, which is not walked for it, in six steps. Refused where the conclusion is not
+/// `F`.
+#[tactic(auto, using(crate::proofs::InferredRules::infers_contr))]
+pub fn contr_known(
+    recorder: &mut Recorder,
+    alloc: Global,
+    logic: &Bool,
+    p: &Term,
+    premise: &Rec,
+) -> Result<Rec, Fault>
+    requires logic { HasLogic recorder.old logic.now }
+    requires formula { IsFormula recorder.old.theory p.now }
+    requires premise { IsMade recorder.old premise.now }
+    ensures continues { Continues recorder.old recorder.new result }
+    ensures outcome { AnswersStated (theorem_in result) (image p.now ∷ terms_of_theorem premise.now.theorem) (contr_outcome recorder.old.theory p.now premise.now.theorem) }
+    ensures inferred { Infers recorder.old.theory (rule_contr p.now) (premise.now.theorem ∷ []) (theorem_in result) }
+{
+    let _type = p.ty();
+    let conclusion = conclusion_of(recorder, premise);
+    if !is_named(conclusion, "F") {
+        return Err(Fault::BadShape);
+    }
     let terms = for_p(alloc, p)?;
     by_leading_theorem(recorder, alloc, logic, CONTR, &terms, p, premise)
 }

@@ -17,7 +17,9 @@ ghost use Rattle.hol_equal.specs.Sequents.{DerivesIf, Continues};
 ghost use Rattle.hol_bool.specs.PreludeInstances.{LeadsTo, Says, TheoremDerives};
 
 use crate::formula_terms::{Sides, connected_sides, negated_part};
-use hol_equal::{by_lemma_known, conclusion_of, instance_known, named_known, named_same};
+use hol_equal::{
+    by_fitting_lemma, by_lemma_known, conclusion_of, instance_known, named_known, named_same,
+};
 use hol_journal::{Rec, Recorder};
 use hol_model::Fault;
 use hol_prelude::{Bool, theorem_of};
@@ -49,8 +51,8 @@ pub(crate) fn by_theorem(
     named_known(recorder, alloc, stated, &answer)
 }
 
-/// The same, where a proof shows that the theorem of the prelude leads from the premise to what is stated: its conclusion at
-/// the terms is not compared with it.
+/// The same, where a proof shows that the theorem of the prelude leads from the premise to what is stated: neither is
+/// compared with the theorem at the terms.
 pub(crate) fn by_leading_theorem(
     recorder: &mut Recorder,
     alloc: Global,
@@ -70,7 +72,7 @@ pub(crate) fn by_leading_theorem(
     ensures derives { TheoremDerives recorder.old.theory number terms.now stated.now premise.now.theorem result }
 {
     let lemma = theorem_of(recorder, logic, number);
-    let answer = by_lemma_known(recorder, alloc, &[], terms, lemma, premise)?;
+    let answer = by_fitting_lemma(recorder, alloc, &[], terms, lemma, premise)?;
     named_same(recorder, alloc, stated, &answer)
 }
 

@@ -1,5 +1,5 @@
 -- Lemmas over a predicate `P` on the type variable `A` and an element `x` or a formula `q`, at a predicate and at such.
-use Rattle.std.specs.Prelude.{ℕ, List, [], ◌∷◌, Bool, codes}
+use Rattle.std.specs.Prelude.{◌≡◌, ℕ, List, [], ◌∷◌, Bool, codes}
 use Rattle.std.specs.List.{list_all}
 use Rattle.hol_model.specs.Terms.HolType.{HolType, bool_type}
 use Rattle.hol_model.specs.Terms.NamedTerm.{NamedTerm, variable}
@@ -9,7 +9,8 @@ use Rattle.hol_model.specs.Kernel.Instantiation.{instantiate_all}
 use Rattle.hol_model.specs.Logic.Logic.{true_term, predicate, quantifier, implication, forall_term}
 use Rattle.hol_model.specs.Logic.Theory.{Theory, IsKnown, type_a}
 use Rattle.hol_model.specs.Logic.Derivable.{nameless_equation}
-use Rattle.hol_equal.specs.Sequents.{instance_of}
+use Rattle.hol_model.specs.Kernel.Theorem.{Theorem}
+use Rattle.hol_equal.specs.Sequents.{Shows, instance_of}
 
 -- a known predicate, and a known element of its domain
 pub record AreKnown (theory : Theory) (function element : NamedTerm) : Type 0 where
@@ -25,6 +26,16 @@ at_type ty term = instantiate_all ((ty, type_a) ∷ []) term
 abbrev pub at_predicate : HolType → NamedTerm → NamedTerm → Nameless → Nameless
 at_predicate ty function element term =
     instance_of ((ty, type_a) ∷ []) ((function, variable (codes "P") (predicate ty)) ∷ (element, variable (codes "x") ty) ∷ []) term
+
+-- a lemma of one hypothesis, and a theorem of that hypothesis at a known predicate and a known element of its domain
+pub record PredicateFits (theory : Theory) (function element : NamedTerm) (lemma premise : Theorem) : Type 0 where
+  pub ty : HolType
+  pub function_known : IsKnown theory (image function) (predicate ty)
+  pub element_known : IsKnown theory (image element) ty
+  pub hypothesis : Nameless
+  pub conclusion : Nameless
+  pub lemma_shows : Shows lemma (hypothesis ∷ []) conclusion
+  pub premise_is : image premise.conclusion ≡ at_predicate ty function element hypothesis
 
 -- the lemma's hypothesis and conclusion are within the limits on the way
 abbrev pub lemma_fits : HolType → NamedTerm → NamedTerm → Nameless → Nameless → Bool

@@ -1,7 +1,7 @@
 -- A formula that is quantified over a variable.
 use Rattle.std.specs.Prelude.{◌≡◌, ◌≤◌, ℕ, List, true}
 use Rattle.hol_model.specs.Terms.HolType.{HolType, type_nodes}
-use Rattle.hol_model.specs.Terms.NamedTerm.{NamedTerm, variable}
+use Rattle.hol_model.specs.Terms.NamedTerm.{NamedTerm, variable, abstraction}
 use Rattle.hol_model.specs.Terms.Nameless.{Nameless, image}
 use Rattle.hol_model.specs.Terms.Substitution.{close}
 use Rattle.hol_model.specs.Logic.Theory.{Theory, IsKnownType}
@@ -21,6 +21,14 @@ pub record IsKnownVariable (theory : Theory) (term : NamedTerm) : Type 0 where
   pub ty : HolType
   pub is : term ≡ variable name ty
   pub known : IsKnownType theory ty
+
+-- and the abstraction of a term over it
+pub record IsAbstracted (theory : Theory) (binder body function : NamedTerm) : Type 0 where
+  pub name : List ℕ
+  pub ty : HolType
+  pub binder_is : binder ≡ variable name ty
+  pub type_known : IsKnownType theory ty
+  pub function_is : function ≡ abstraction name ty body
 
 -- and one that is free in no hypothesis
 pub record MayGeneralize (theory : Theory) (premise : Theorem) (binder : NamedTerm) (name : List ℕ) (ty : HolType) : Type 0 where

@@ -16,12 +16,12 @@ ghost use Rattle.hol_prelude.specs.HasLogic.{HasLogic};
 ghost use Rattle.hol_equal.specs.Room.{Room, FitsIf};
 ghost use Rattle.hol_equal.specs.Sequents.{Shows, DerivesIf, IsPast, Continues};
 ghost use Rattle.hol_equal.specs.Inferred.{Infers};
-ghost use Rattle.hol_quant.specs.PredicateLemmas.{AreKnown, is_always, over_predicate};
-ghost use Rattle.hol_quant.specs.Universals.{IsKnownVariable, for_all, MayGeneralize, FitsForAll};
+ghost use Rattle.hol_quant.specs.PredicateLemmas.{is_always, over_predicate};
+ghost use Rattle.hol_quant.specs.Universals.{IsKnownVariable, IsAbstracted, for_all, MayGeneralize, FitsForAll};
 
 use crate::instances::by_predicate_lemma;
 use hol_bool::formula_pair;
-use hol_equal::{abs, by_lemma_known, conclusion_of, named_same};
+use hol_equal::{abs, by_fitting_lemma, conclusion_of, named_same};
 use hol_journal::{Rec, Recorder};
 use hol_model::Fault;
 use hol_prelude::{Bool, numbers, theorem_of};
@@ -46,7 +46,7 @@ pub(crate) fn equal_to_truth(
     let lemma = theorem_of(recorder, logic, numbers::EQT_INTRO);
     let of_formula = formula_pair(alloc, recorder.thm(premise).concl(), "p")?;
     let terms = [of_formula];
-    by_lemma_known(recorder, alloc, &[], &terms, lemma, premise)
+    by_fitting_lemma(recorder, alloc, &[], &terms, lemma, premise)
 }
 
 // `!x. p`, from `\x. p`.
@@ -82,7 +82,7 @@ fn over_all(
 ) -> Result<Rec, Fault>
     requires logic { HasLogic recorder.old logic.now }
     requires premise { IsMade recorder.old premise.now }
-    requires known { AreKnown recorder.old.theory function.now binder.now }
+    requires function { IsAbstracted recorder.old.theory binder.now premise.now.theorem.conclusion function.now }
     ensures continues { Continues recorder.old recorder.new result }
     ensures derives { (name : List ℕ) (ty : HolType) (room : Room) → MayGeneralize recorder.old.theory premise.now.theorem binder.now name ty
         → function.now ≡ abstraction name ty premise.now.theorem.conclusion → FitsForAll room name ty premise.now.theorem.conclusion

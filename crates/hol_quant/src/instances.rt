@@ -10,10 +10,10 @@ ghost use Rattle.hol_model.specs.Logic.Theory.{IsKnown, type_a};
 ghost use Rattle.hol_journal.specs.Journal.{IsMade};
 ghost use Rattle.hol_equal.specs.Formulas.{IsFormula};
 ghost use Rattle.hol_equal.specs.Sequents.{Shows, DerivesIf, Continues};
-ghost use Rattle.hol_quant.specs.PredicateLemmas.{AreKnown, at_predicate, lemma_fits, at_formula, formula_lemma_fits};
+ghost use Rattle.hol_quant.specs.PredicateLemmas.{AreKnown, PredicateFits, at_predicate, lemma_fits, at_formula, formula_lemma_fits};
 
 use hol_bool::formula_pair;
-use hol_equal::by_lemma_known;
+use hol_equal::{by_fitting_lemma, by_lemma_known};
 use hol_journal::{Rec, Recorder};
 use hol_model::Fault;
 use hol_terms::Term;
@@ -42,7 +42,7 @@ fn variable_pair(alloc: Global, term: &Term, name: &str) -> Result<(Term, Term),
 }
 
 // From the lemma's hypothesis at a predicate for `P` and an element for `x`, its conclusion there. The theory knows both, which
-// are not walked for it.
+// are not walked for it, and the premise fits, and is not compared with the hypothesis.
 pub(crate) fn by_predicate_lemma(
     recorder: &mut Recorder,
     alloc: Global,
@@ -53,7 +53,7 @@ pub(crate) fn by_predicate_lemma(
 ) -> Result<Rec, Fault>
     requires lemma { IsMade recorder.old lemma.now }
     requires premise { IsMade recorder.old premise.now }
-    requires known { AreKnown recorder.old.theory function.now element.now }
+    requires fits { PredicateFits recorder.old.theory function.now element.now lemma.now.theorem premise.now.theorem }
     ensures continues { Continues recorder.old recorder.new result }
     ensures derives { (ty : HolType) → IsKnown recorder.old.theory (image function.now) (predicate ty)
         → IsKnown recorder.old.theory (image element.now) ty → (h : List Nameless) (p q : Nameless) → Shows lemma.now.theorem (p ∷ []) q
@@ -65,7 +65,7 @@ pub(crate) fn by_predicate_lemma(
     let of_element = variable_pair(alloc, element, "x")?;
     let types = [of_type];
     let terms = [of_predicate, of_element];
-    by_lemma_known(recorder, alloc, &types, &terms, lemma, premise)
+    by_fitting_lemma(recorder, alloc, &types, &terms, lemma, premise)
 }
 
 // From the lemma's hypothesis at a predicate for `P`, on the type of an element, and a formula for `q`, its conclusion

@@ -49,8 +49,22 @@ returns-clause-derives c h premise room leads shows =
 pub named_same-requires-clause-formula : goal.named_same-requires-clause-formula
 named_same-requires-clause-formula c = subst (λ (t : Theory). IsFormula t c.args.stated.now) (sym c.in_ok-answer.ensures.continues.theory) c.requires.stated
 
-pub by_lemma_known-requires-clause-known : goal.by_lemma_known-requires-clause-known
-by_lemma_known-requires-clause-known c = c.requires.leads.may_replace
+pub by_fitting_lemma-requires-clause-types : goal.by_fitting_lemma-requires-clause-types
+by_fitting_lemma-requires-clause-types c = refl
+
+pub by_fitting_lemma-requires-clause-known : goal.by_fitting_lemma-requires-clause-known
+by_fitting_lemma-requires-clause-known c = c.requires.leads.may_replace
+
+pub by_fitting_lemma-requires-clause-fits : goal.by_fitting_lemma-requires-clause-fits
+by_fitting_lemma-requires-clause-fits c =
+    let premise = image c.args.premise.now.theorem.conclusion in
+    let leads = c.requires.leads in
+    record {
+      hypothesis = image leads.hypothesis;
+      conclusion = image leads.stated;
+      lemma_shows = leads-shows c.args.recorder.now.theory c.args.number c.args.terms.now false premise (image c.args.stated.now) leads c.theorem_of-lemma.result.now.theorem c.theorem_of-lemma.ensures.theorem;
+      premise_is = leads.premise_is;
+    }
 
 pub named_same-requires-clause-same : goal.named_same-requires-clause-same
 named_same-requires-clause-same c =

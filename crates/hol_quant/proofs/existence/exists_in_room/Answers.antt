@@ -1,8 +1,8 @@
-use Rattle.std.proofs.Common.{◌≡◌, subst, sym}
+use Rattle.std.proofs.Common.{◌≡◌, ◌∙◌, subst, sym}
 use Rattle.std.specs.List.{list_all}
 use Rattle.hol_model.specs.Terms.HolType.{bool_type}
 use Rattle.hol_model.specs.Logic.Logic.{exists_name, predicate}
-use Rattle.hol_model.specs.Terms.Nameless.{Nameless, image}
+use Rattle.hol_model.specs.Terms.Nameless.{Nameless, app, image}
 use Rattle.hol_model.specs.Terms.Measures.{nameless_within_limits}
 use Rattle.hol_model.specs.Logic.Theory.{Theory, IsKnown}
 use Rattle.hol_model.specs.Logic.Derivable.{nameless_equation}
@@ -11,7 +11,7 @@ use Rattle.hol_journal.proofs.GrowthLemmas.{journals-grow}
 use Rattle.hol_equal.specs.Sequents.{Shows}
 use Rattle.hol_equal.proofs.Sizes.{past-room}
 use Rattle.hol_equal.proofs.CutLemmas.{derives-where}
-use Rattle.hol_quant.specs.PredicateLemmas.{AreKnown, applied, over_predicate, lemma_fits}
+use Rattle.hol_quant.specs.PredicateLemmas.{applied, over_predicate, lemma_fits}
 use Rattle.hol_quant.proofs.PreludeParts.{witness-shows}
 use Rattle.hol_quant.proofs.ExistsLemmas.{small, predicate_known, redex-at, formula-at, exists-lemma-within, exists-names-within}
 use Rattle.hol_equal.proofs.StepLemmas.{passed_on}
@@ -26,15 +26,28 @@ pub by_predicate_lemma-requires-clause-lemma : goal.by_predicate_lemma-requires-
 by_predicate_lemma-requires-clause-lemma c =
     journals-grow.stays c.args.recorder.now c.expanded.new.recorder c.theorem_of-lemma.result.now c.in_ok-redex.ensures.continues.grown c.theorem_of-lemma.ensures.made
 
-pub by_predicate_lemma-requires-clause-known : goal.by_predicate_lemma-requires-clause-known
-by_predicate_lemma-requires-clause-known c =
+pub by_predicate_lemma-requires-clause-fits : goal.by_predicate_lemma-requires-clause-fits
+by_predicate_lemma-requires-clause-fits c =
+    let formula = c.args.formula.now in
     let theory = c.args.recorder.now.theory in
     let function = c.args.parts.predicate.now in
+    let binder = c.args.parts.binder.now in
+    let body = c.args.parts.body.now in
     let witness = c.args.witness.now in
+    let premise = c.args.premise.now.theorem in
+    let instance = image premise.conclusion in
     let at = c.requires.witnessed in
     let later : c.expanded.new.recorder.theory ≡ theory = c.in_ok-redex.ensures.continues.theory in
-    let function_known = predicate_known theory c.args.formula.now function c.args.parts.binder.now c.args.parts.body.now witness (image c.args.premise.now.theorem.conclusion) at in
-    subst (λ (th : Theory). AreKnown th function witness) (sym later) (record { ty = at.parts.ty; function_known = function_known; element_known = at.witness_known })
+    let redex : Shows c.in_ok-redex.redex.theorem (images premise) (app (image function) (image witness)) = c.in_ok-redex.ensures.derives formula at in
+    record {
+      ty = at.parts.ty;
+      function_known = subst (λ (th : Theory). IsKnown th (image function) (predicate at.parts.ty)) (sym later) (predicate_known theory formula function binder body witness instance at);
+      element_known = subst (λ (th : Theory). IsKnown th (image witness) at.parts.ty) (sym later) at.witness_known;
+      hypothesis = applied;
+      conclusion = over_predicate exists_name;
+      lemma_shows = witness-shows c.theorem_of-lemma.result.now.theorem c.theorem_of-lemma.ensures.theorem;
+      premise_is = redex.concludes ∙ sym (redex-at theory formula function binder body witness instance at);
+    }
 
 pub returns-in_err-answer-clause-derives : goal.returns-in_err-answer-clause-derives
 returns-in_err-answer-clause-derives c at =

@@ -35,15 +35,15 @@ returns-clause-derives c room fits =
     let d = nameless_equation bool_type proposition truth in
     derives-where
     (list_all nameless_within_limits (d ∷ proposition ∷ nameless_equation bool_type p truth ∷ p ∷ nameless_equation bool_type p (nameless_equation bool_type p truth) ∷ []))
-    room c.by_lemma_known.result (images premise) (nameless_equation bool_type p truth) (truth-fits room p fits)
+    room c.by_fitting_lemma.result (images premise) (nameless_equation bool_type p truth) (truth-fits room p fits)
     (subst (λ (l : List (NamedTerm × NamedTerm)).
     DerivesIf (list_all nameless_within_limits
     (instantiate_all [] d ∷ instantiate_all [] proposition ∷ instance_of [] l d ∷ instance_of [] l proposition ∷ nameless_equation bool_type
-    (instance_of [] l proposition) (instance_of [] l d) ∷ [])) c.by_lemma_known.result (images premise) (instance_of [] l d)) theta_is
-    (c.by_lemma_known.ensures.derives refl passes (images premise) proposition d (truth-shows c.theorem_of-lemma.result.now.theorem c.theorem_of-lemma.ensures.theorem) shows))
+    (instance_of [] l proposition) (instance_of [] l d) ∷ [])) c.by_fitting_lemma.result (images premise) (instance_of [] l d)) theta_is
+    (c.by_fitting_lemma.ensures.derives refl passes (images premise) proposition d (truth-shows c.theorem_of-lemma.result.now.theorem c.theorem_of-lemma.ensures.theorem) shows))
 
-pub by_lemma_known-requires-clause-known : goal.by_lemma_known-requires-clause-known
-by_lemma_known-requires-clause-known c =
+pub by_fitting_lemma-requires-clause-known : goal.by_fitting_lemma-requires-clause-known
+by_fitting_lemma-requires-clause-known c =
     let premise = c.args.premise.now.theorem in
     let theory = c.args.recorder.now.theory in
     let is_theorem = rw c.thm.ensures at c.concl.ensures.theorem in
@@ -55,3 +55,19 @@ by_lemma_known-requires-clause-known c =
 
 pub returns-in_err-of_formula-clause-continues : goal.returns-in_err-of_formula-clause-continues
 returns-in_err-of_formula-clause-continues c = rw (err_from_is_err_and c.from_residual.result c.from_residual.ensures.1).1 (search rules)
+
+pub by_fitting_lemma-requires-clause-types : goal.by_fitting_lemma-requires-clause-types
+by_fitting_lemma-requires-clause-types c = refl
+
+pub by_fitting_lemma-requires-clause-fits : goal.by_fitting_lemma-requires-clause-fits
+by_fitting_lemma-requires-clause-fits c =
+    let premise = c.args.premise.now.theorem in
+    let conclusion_is : c.concl.result.now ≡ premise.conclusion = c.concl.ensures.value ∙ ap (λ (t : Theorem). t.conclusion) c.thm.ensures in
+    let pair_is : c.in_ok-of_formula.of_formula ≡ (premise.conclusion, variable (codes "p") bool_type) = c.in_ok-of_formula.ensures.ok ∙ (λ i. (conclusion_is i, variable (codes "p") bool_type)) in
+    let theta_is : c.in_ok-of_formula.of_formula ∷ [] ≡ (premise.conclusion, variable (codes "p") bool_type) ∷ [] = λ i. pair_is i ∷ [] in
+    record {
+      hypothesis = proposition;
+      conclusion = nameless_equation bool_type proposition truth;
+      lemma_shows = truth-shows c.theorem_of-lemma.result.now.theorem c.theorem_of-lemma.ensures.theorem;
+      premise_is = ap (λ (l : List (NamedTerm × NamedTerm)). instance_of [] l proposition) (sym theta_is);
+    }

@@ -1,25 +1,20 @@
-use Rattle.std.proofs.Common.{rules, ◌∙◌, ap, subst, sym}
+use Rattle.std.proofs.Common.{rules, ◌∙◌, ap, sym}
 use Rattle.std.proofs.lemmas.Result.{err_from_is_err_and}
-use Rattle.hol_model.specs.Logic.Logic.{predicate}
-use Rattle.hol_model.specs.Terms.NamedTerm.{NamedTerm}
-use Rattle.hol_model.specs.Terms.Nameless.{image}
-use Rattle.hol_model.specs.Logic.Theory.{IsKnown}
 use Rattle.hol_model.specs.Kernel.Rules.{abstraction_outcome}
-use Rattle.hol_quant.proofs.ForAllLemmas.{variable-known, function-known, abstraction-past, abstraction-is}
+use Rattle.hol_quant.proofs.ForAllLemmas.{abstraction-past, abstraction-is}
 use Rattle.hol_quant.proofs.generalization.gen_in_room.Goals as goal
 
-pub over_all-requires-clause-known : goal.over_all-requires-clause-known
-over_all-requires-clause-known c =
-    let theory = c.args.recorder.now.theory in
-    let p = c.args.premise.now.theorem.conclusion in
+pub over_all-requires-clause-function : goal.over_all-requires-clause-function
+over_all-requires-clause-function c =
     let binder = c.args.binder.now in
     let at = c.requires.variable in
-    let function_is = abstraction-is at.name at.ty p binder at.is c.in_ok-function.function
-    (ap (abstraction_outcome binder) (sym c.conclusion_of-formula.ensures.value) ∙ c.in_ok-function.ensures.outcome) in
     record {
+      name = at.name;
       ty = at.ty;
-      function_known = subst (λ (f : NamedTerm). IsKnown theory (image f) (predicate at.ty)) (sym function_is) (function-known at.name at.ty p theory at.known c.conclusion_of-formula.ensures.formula.known);
-      element_known = variable-known theory binder at.name at.ty at.is at.known;
+      binder_is = at.is;
+      type_known = at.known;
+      function_is = abstraction-is at.name at.ty c.args.premise.now.theorem.conclusion binder at.is c.in_ok-function.function
+          (ap (abstraction_outcome binder) (sym c.conclusion_of-formula.ensures.value) ∙ c.in_ok-function.ensures.outcome);
     }
 
 pub returns-in_err-function-clause-derives : goal.returns-in_err-function-clause-derives

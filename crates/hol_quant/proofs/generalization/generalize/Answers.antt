@@ -78,8 +78,8 @@ returns-in_err-formula-clause-outcome c =
     (subst (λ (f : NamedTerm). IsPast c.in_err-formula.field-0.0 (nameless_within_limits (app (const forall_name (quantifier ty)) (image f)))) made_is (c.in_err-formula.ensures.err ty made_typed))
     (formula-within theory premise binder name ty at))
 
-pub over_all-requires-clause-known : goal.over_all-requires-clause-known
-over_all-requires-clause-known c =
+pub over_all-requires-clause-function : goal.over_all-requires-clause-function
+over_all-requires-clause-function c =
     let journal = c.args.recorder.now in
     let theory = journal.theory in
     let premise = c.args.premise.now.theorem in
@@ -95,11 +95,7 @@ over_all-requires-clause-known c =
     let conclusion_is : c.concl.result.now ≡ premise.conclusion = c.concl.ensures.value ∙ ap (λ (t : Theorem). t.conclusion) c.thm-theorem.ensures in
     let made_is : c.in_ok-function.function ≡ function theory premise binder name ty at = abstraction-made theory premise binder name ty at c.in_ok-function.function
     (ap (abstraction_outcome binder) (sym conclusion_is) ∙ c.in_ok-function.ensures.outcome) in
-    record {
-      ty = ty;
-      function_known = subst (λ (f : NamedTerm). IsKnown theory (image f) (predicate ty)) (sym made_is) (function-known name ty premise.conclusion theory at.knows at.known);
-      element_known = variable-known theory binder name ty at.binder_is at.knows;
-    }
+    record { name = name; ty = ty; binder_is = at.binder_is; type_known = at.knows; function_is = made_is }
 
 pub returns-in_err-answer-clause-outcome : goal.returns-in_err-answer-clause-outcome
 returns-in_err-answer-clause-outcome c =

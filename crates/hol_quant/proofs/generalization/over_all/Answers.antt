@@ -1,4 +1,4 @@
-use Rattle.std.proofs.Common.{◌≡◌, ◌∙◌, ap, subst, sym}
+use Rattle.std.proofs.Common.{◌≡◌, false, ◌∙◌, ap, subst, sym}
 use Rattle.std.proofs.lemmas.Result.{err_from_is_err_and}
 use Rattle.hol_model.specs.Terms.HolType.{bool_type}
 use Rattle.hol_model.specs.Logic.Logic.{forall_name, predicate}
@@ -6,14 +6,15 @@ use Rattle.hol_model.specs.Terms.NamedTerm.{NamedTerm, abstraction}
 use Rattle.hol_model.specs.Terms.Nameless.{Nameless, image}
 use Rattle.hol_model.specs.Terms.Measures.{nameless_within_limits}
 use Rattle.hol_model.specs.Logic.Theory.{Theory, IsKnown, IsKnownType}
+use Rattle.hol_model.specs.Logic.Derivable.{nameless_equation}
 use Rattle.hol_model.specs.Derived.DerivedRules.{images}
 use Rattle.hol_equal.specs.Sequents.{Shows, DerivesIf}
 use Rattle.hol_equal.proofs.CutLemmas.{derives-where}
 use Rattle.hol_equal.proofs.Sizes.{past-room}
-use Rattle.hol_quant.specs.PredicateLemmas.{AreKnown, is_always, over_predicate, at_predicate, lemma_fits}
+use Rattle.hol_quant.specs.PredicateLemmas.{is_always, over_predicate, at_predicate, lemma_fits}
 use Rattle.hol_quant.specs.Universals.{for_all}
 use Rattle.hol_quant.proofs.GenLemmas.{truth}
-use Rattle.hol_quant.proofs.ForAllLemmas.{binder-known, function-known, always, always-at, formula-at, body-fits, always-within, lemma-fits}
+use Rattle.hol_quant.proofs.ForAllLemmas.{variable-known, binder-known, function-known, always, always-at, formula-at, body-fits, always-within, lemma-fits}
 use Rattle.hol_quant.proofs.PreludeParts.{always-shows}
 use Rattle.hol_quant.proofs.generalization.over_all.Goals as goal
 
@@ -37,10 +38,29 @@ returns-in_err-always-clause-derives c name ty room may function_is fits =
     (c.in_err-always.ensures.derives (images premise) name ty bool_type (image p) truth (ap image may.binder_is) knows may.fresh equal) (always-within name ty p room fits)
     )
 
-pub by_predicate_lemma-requires-clause-known : goal.by_predicate_lemma-requires-clause-known
-by_predicate_lemma-requires-clause-known c =
-    let later : c.abs.new.recorder.theory ≡ c.args.recorder.now.theory = c.in_ok-always.ensures.continues.theory ∙ c.in_ok-equal.ensures.continues.theory in
-    subst (λ (th : Theory). AreKnown th c.args.function.now c.args.binder.now) (sym later) c.requires.known
+pub by_predicate_lemma-requires-clause-fits : goal.by_predicate_lemma-requires-clause-fits
+by_predicate_lemma-requires-clause-fits c =
+    let theory = c.args.recorder.now.theory in
+    let p = c.args.premise.now.theorem.conclusion in
+    let binder = c.args.binder.now in
+    let function = c.args.function.now in
+    let equal = c.in_ok-equal.equal.theorem in
+    let always_made = c.in_ok-always.always.theorem in
+    let formula = c.conclusion_of-formula.ensures.formula in
+    let at = c.requires.function in
+    let later : c.abs.new.recorder.theory ≡ theory = c.in_ok-always.ensures.continues.theory ∙ c.in_ok-equal.ensures.continues.theory in
+    let function_there = subst (λ (f : NamedTerm). IsKnown theory (image f) (predicate at.ty)) (sym at.function_is) (function-known at.name at.ty p theory at.type_known formula.known) in
+    let equal_shows : Shows equal (images c.args.premise.now.theorem) (nameless_equation bool_type (image p) truth) = c.in_ok-equal.ensures.derives false (λ is. cc) in
+    let concludes = c.in_ok-always.ensures.concludes at.name at.ty bool_type (image p) truth (ap image at.binder_is) equal_shows.concludes in
+    record {
+      ty = at.ty;
+      function_known = subst (λ (th : Theory). IsKnown th (image function) (predicate at.ty)) (sym later) function_there;
+      element_known = subst (λ (th : Theory). IsKnown th (image binder) at.ty) (sym later) (variable-known theory binder at.name at.ty at.binder_is at.type_known);
+      hypothesis = is_always;
+      conclusion = over_predicate forall_name;
+      lemma_shows = always-shows c.theorem_of-lemma.result.now.theorem c.theorem_of-lemma.ensures.theorem;
+      premise_is = concludes ∙ sym (ap (λ f. at_predicate at.ty f binder is_always) at.function_is ∙ always-at at.name at.ty p binder);
+    }
 
 pub returns-clause-derives : goal.returns-clause-derives
 returns-clause-derives c name ty room may function_is fits =

@@ -68,8 +68,8 @@ returns-in_err-redex-clause-outcome c =
     (c.in_err-redex.ensures.derives at.ty function_known term_known (images premise) (over_predicate forall_name) applied c.requires.shows premise_shows)
     (spec-lemma-within theory term premise function binder body at start.typed)))
 
-pub by_predicate_lemma-requires-clause-known : goal.by_predicate_lemma-requires-clause-known
-by_predicate_lemma-requires-clause-known c =
+pub by_predicate_lemma-requires-clause-fits : goal.by_predicate_lemma-requires-clause-fits
+by_predicate_lemma-requires-clause-fits c =
     let journal = c.args.recorder.now in
     let theory = journal.theory in
     let term = c.args.term.now in
@@ -87,6 +87,10 @@ by_predicate_lemma-requires-clause-known c =
       ty = at.ty;
       function_known = subst (λ (t : Nameless). IsKnown theory t (predicate at.ty)) (sym (function_image theory term premise function binder body at start.typed)) at.function_known;
       element_known = known_term theory term at.ty none start.typed;
+      hypothesis = over_predicate forall_name;
+      conclusion = applied;
+      lemma_shows = c.requires.shows;
+      premise_is = sym (premise-at theory term premise function binder body at start.typed);
     }
 
 pub converted_known-requires : goal.converted_known-requires
