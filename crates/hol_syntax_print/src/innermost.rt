@@ -41,15 +41,14 @@ fn reset_type(
     ensures new { OnOk result (SetsBound (map.get_by_text types.old) (map.get_by_text types.new) name.now hidden) }
 {
     match hidden {
-        Some(ty) => match set_type(alloc, types, name, ty) {
-            Ok(_) => Ok(()),
-            Err(fault) => Err(fault),
-        },
+        Some(ty) => {
+            set_type(alloc, types, name, ty)?;
+        }
         None => {
             types.remove(name);
-            Ok(())
         }
     }
+    Ok(())
 }
 
 impl Innermost {
