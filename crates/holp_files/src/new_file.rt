@@ -1,5 +1,6 @@
 // A file that is made once there are bytes for it.
-ghost use Rattle.std.specs.Prelude.{◌≡◌, false};
+ghost use Rattle.std.specs.Prelude.{◌≡◌, [], false, IfOk};
+ghost use Rattle.std.specs.Io.{WritesAtMost};
 
 use hol_model::{DeviceFail, Sink};
 use std::fs::{self, File};
@@ -39,33 +40,33 @@ impl NewFile<'_> {
             },
         }
     }
+
+    // Bytes from the front of a piece, which the file takes.
+    fn take(&mut self, piece: &[u8]) -> Result<usize, DeviceFail>
+        ensures bound { WritesAtMost result piece.now }
+        ensures some { IfOk result (λ n. n ≡ 0 → piece.now ≡ []) }
+        ensures kept { self.new.failed ≡ self.old.failed }
+    {
+        let mut file = self.opened()?;
+        match file.write(piece) {
+            Ok(count) if count > 0 || piece.is_empty() => {
+                self.file = Some(file);
+                Ok(count)
+            }
+            _ => Err(DeviceFail),
+        }
+    }
 }
 
 impl Sink for NewFile<'_> {
     ghost has_failed = { λ s. s.failed };
 
     fn emit(&mut self, piece: &[u8]) -> Result<usize, DeviceFail> {
-        let mut file = match self.opened() {
-            Ok(file) => file,
-            Err(failure) => {
-                self.failed = true;
-                return Err(failure);
-            }
-        };
-        match file.write(piece) {
-            Ok(count) => {
-                if count == 0 && !piece.is_empty() {
-                    self.failed = true;
-                    return Err(DeviceFail);
-                }
-                self.file = Some(file);
-                Ok(count)
-            }
-            Err(_) => {
-                self.failed = true;
-                Err(DeviceFail)
-            }
+        let taken = self.take(piece);
+        if taken.is_err() {
+            self.failed = true;
         }
+        taken
     }
 
     fn failed(&self) -> bool {
