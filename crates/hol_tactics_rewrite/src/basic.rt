@@ -1,8 +1,7 @@
 // HOL Light's basic rewrites of formulas, and BETA_CONV.
 
-use crate::changed::{Changed, changed_to};
+use crate::changed::{Conversion, changed_to};
 use hol_alpha::aconv;
-use hol_host::HostFail;
 use hol_tactics_forms::{
     Derivation, Formula, assume, ccontr, choose, conj, conjunct1, conjunct2, contr, contradiction,
     deduct_antisym, dest_eq, dest_formula, disch, disj_cases, disj1, disj2, eq_mp, eqt_elim,
@@ -13,7 +12,7 @@ use hol_terms::{Term, free_in};
 use std::alloc::Global;
 
 /// BETA_CONV, where the term is a redex.
-pub(crate) fn beta_conv(alloc: Global, term: &Term) -> Result<Option<Changed>, HostFail> {
+pub(crate) fn beta_conv(alloc: Global, term: &Term) -> Conversion {
     let Some((function, argument)) = term.dest_comb() else {
         return Ok(None);
     };
@@ -26,15 +25,20 @@ pub(crate) fn beta_conv(alloc: Global, term: &Term) -> Result<Option<Changed>, H
 
 /// What a formula becomes by the clauses of its connective with `T`, `F` or two equal sides, by `~~p <=> p`, by `x = x <=> T`, or
 /// without a quantifier whose variable is not in the body.
-pub(crate) fn basic(alloc: Global, term: &Term) -> Result<Option<Changed>, HostFail> {
+pub(crate) fn basic(alloc: Global, term: &Term) -> Conversion {
     match dest_formula(term) {
         Formula::Not(p) => not_clauses(alloc, term, p),
         Formula::And(p, q) => and_clauses(alloc, term, p, q),
         Formula::Or(p, q) => or_clauses(alloc, term, p, q),
         Formula::Implies(p, q) => imp_clauses(alloc, term, p, q),
         Formula::Iff(p, q) => eq_clauses(alloc, term, p, q),
-        Formula::ForAll(variable, body) => forall_simp(alloc, term, variable, body),
-        Formula::Exists(variable, body) => exists_simp(alloc, term, variable, body),
+        Formula::ForAll(variable, body) if !free_in(variable, body) => {
+            forall_simp(alloc, term, variable, body)
+        }
+        Formula::Exists(variable, body) if !free_in(variable, body) => {
+            exists_simp(alloc, term, variable, body)
+        }
+        Formula::ForAll(_, _) | Formula::Exists(_, _) => Ok(None),
         Formula::Atom => refl_clause(alloc, term),
     }
 }
@@ -67,22 +71,17 @@ fn follows(alloc: Global, formula: &Term, from: &Term) -> Derivation {
 }
 
 // The formula becomes this one: it follows from it, and this one from the formula.
-fn becomes(
-    alloc: Global,
-    made: &Term,
-    back: Derivation,
-    forth: Derivation,
-) -> Result<Option<Changed>, HostFail> {
+fn becomes(alloc: Global, made: &Term, back: Derivation, forth: Derivation) -> Conversion {
     changed_to(made.copy(alloc)?, deduct_antisym(alloc, back, forth))
 }
 
 // A formula that is proved becomes `T`.
-fn becomes_true(alloc: Global, proved: Derivation) -> Result<Option<Changed>, HostFail> {
+fn becomes_true(alloc: Global, proved: Derivation) -> Conversion {
     changed_to(truth(alloc)?, eqt_intro(alloc, proved))
 }
 
 // NOT_CLAUSES.
-fn not_clauses(alloc: Global, term: &Term, p: &Term) -> Result<Option<Changed>, HostFail> {
+fn not_clauses(alloc: Global, term: &Term, p: &Term) -> Conversion {
     if let Formula::Not(inner) = dest_formula(p) {
         return not_not(alloc, term, p, inner);
     }
@@ -98,12 +97,7 @@ fn not_clauses(alloc: Global, term: &Term, p: &Term) -> Result<Option<Changed>, 
 }
 
 // NOT_NOT: `~~p <=> p`, where `denied` is `~p`.
-fn not_not(
-    alloc: Global,
-    term: &Term,
-    denied: &Term,
-    p: &Term,
-) -> Result<Option<Changed>, HostFail> {
+fn not_not(alloc: Global, term: &Term, denied: &Term, p: &Term) -> Conversion {
     let clash = contradiction(alloc, assume(alloc, denied), assume(alloc, p));
     let back = refute(alloc, denied, clash);
     let clash = contradiction(alloc, assume(alloc, term), assume(alloc, denied));
@@ -111,12 +105,7 @@ fn not_not(
 }
 
 // AND_CLAUSES: one side is kept.
-fn and_clauses(
-    alloc: Global,
-    term: &Term,
-    p: &Term,
-    q: &Term,
-) -> Result<Option<Changed>, HostFail> {
+fn and_clauses(alloc: Global, term: &Term, p: &Term, q: &Term) -> Conversion {
     if is_falsity(p) || is_truth(q) || aconv(p, q) {
         let back = conj(alloc, follows(alloc, p, p), follows(alloc, q, p));
         return becomes(alloc, p, back, conjunct1(alloc, assume(alloc, term)));
@@ -129,7 +118,7 @@ fn and_clauses(
 }
 
 // OR_CLAUSES: one side is kept.
-fn or_clauses(alloc: Global, term: &Term, p: &Term, q: &Term) -> Result<Option<Changed>, HostFail> {
+fn or_clauses(alloc: Global, term: &Term, p: &Term, q: &Term) -> Conversion {
     if is_truth(p) || is_falsity(q) || aconv(p, q) {
         let either = assume(alloc, term);
         let forth = disj_cases(alloc, either, follows(alloc, p, p), follows(alloc, p, q));
@@ -144,12 +133,7 @@ fn or_clauses(alloc: Global, term: &Term, p: &Term, q: &Term) -> Result<Option<C
 }
 
 // IMP_CLAUSES.
-fn imp_clauses(
-    alloc: Global,
-    term: &Term,
-    p: &Term,
-    q: &Term,
-) -> Result<Option<Changed>, HostFail> {
+fn imp_clauses(alloc: Global, term: &Term, p: &Term, q: &Term) -> Conversion {
     if is_falsity(p) || is_truth(q) || aconv(p, q) {
         return becomes_true(alloc, disch(alloc, p, follows(alloc, q, p)));
     }
@@ -167,7 +151,7 @@ fn imp_clauses(
 }
 
 // EQ_CLAUSES. An equation whose constant stands first is turned round.
-fn eq_clauses(alloc: Global, term: &Term, p: &Term, q: &Term) -> Result<Option<Changed>, HostFail> {
+fn eq_clauses(alloc: Global, term: &Term, p: &Term, q: &Term) -> Conversion {
     if aconv(p, q) {
         return becomes_true(alloc, refl(alloc, p));
     }
@@ -215,16 +199,8 @@ fn eqf_elim(alloc: Global, p: &Term, equation: Derivation) -> Derivation {
     refute(alloc, p, eq_mp(alloc, equation, assume(alloc, p)))
 }
 
-// FORALL_SIMP.
-fn forall_simp(
-    alloc: Global,
-    term: &Term,
-    variable: &Term,
-    body: &Term,
-) -> Result<Option<Changed>, HostFail> {
-    if free_in(variable, body) {
-        return Ok(None);
-    }
+// FORALL_SIMP, of a variable that is not in the body.
+fn forall_simp(alloc: Global, term: &Term, variable: &Term, body: &Term) -> Conversion {
     let back = generalize(alloc, variable, assume(alloc, body));
     becomes(
         alloc,
@@ -234,23 +210,15 @@ fn forall_simp(
     )
 }
 
-// EXISTS_SIMP.
-fn exists_simp(
-    alloc: Global,
-    term: &Term,
-    variable: &Term,
-    body: &Term,
-) -> Result<Option<Changed>, HostFail> {
-    if free_in(variable, body) {
-        return Ok(None);
-    }
+// EXISTS_SIMP, of a variable that is not in the body.
+fn exists_simp(alloc: Global, term: &Term, variable: &Term, body: &Term) -> Conversion {
     let back = exists(alloc, term, variable, assume(alloc, body));
     let forth = choose(alloc, variable, assume(alloc, term), assume(alloc, body));
     becomes(alloc, body, back, forth)
 }
 
 // REFL_CLAUSE.
-fn refl_clause(alloc: Global, term: &Term) -> Result<Option<Changed>, HostFail> {
+fn refl_clause(alloc: Global, term: &Term) -> Conversion {
     match dest_eq(term) {
         Some((left, right)) if aconv(left, right) => becomes_true(alloc, refl(alloc, left)),
         _ => Ok(None),

@@ -13,18 +13,17 @@ pub(crate) struct Changed {
     pub(crate) just: Just,
 }
 
+/// What a conversion makes of a term; nothing where it leaves it.
+pub(crate) type Conversion = Result<Option<Changed>, HostFail>;
+
 /// What a term becomes.
-pub(crate) fn changed_to(term: Term, just: Derivation) -> Result<Option<Changed>, HostFail> {
+pub(crate) fn changed_to(term: Term, just: Derivation) -> Conversion {
     let just = just?;
     Ok(Some(Changed { term, just }))
 }
 
 /// TRANS, where what the term became was changed again.
-pub(crate) fn trans(
-    alloc: Global,
-    before: Changed,
-    behind: Option<Changed>,
-) -> Result<Option<Changed>, HostFail> {
+pub(crate) fn trans(alloc: Global, before: Changed, behind: Option<Changed>) -> Conversion {
     match behind {
         Some(Changed { term, just }) => {
             changed_to(
@@ -37,11 +36,7 @@ pub(crate) fn trans(
 }
 
 /// ABS.
-pub(crate) fn abs(
-    alloc: Global,
-    variable: &Term,
-    body: Changed,
-) -> Result<Option<Changed>, HostFail> {
+pub(crate) fn abs(alloc: Global, variable: &Term, body: Changed) -> Conversion {
     let term = Term::mk_abs(alloc, variable, &body.term)?;
     changed_to(term, hol_tactics_forms::abs(alloc, variable, Ok(body.just)))
 }
@@ -53,7 +48,7 @@ pub(crate) fn combined(
     left: Option<Changed>,
     argument: &Term,
     right: Option<Changed>,
-) -> Result<Option<Changed>, HostFail> {
+) -> Conversion {
     match (left, right) {
         (None, None) => Ok(None),
         (left, right) => {
@@ -64,11 +59,7 @@ pub(crate) fn combined(
 }
 
 // MK_COMB.
-fn mk_comb(
-    alloc: Global,
-    function: Changed,
-    argument: Changed,
-) -> Result<Option<Changed>, HostFail> {
+fn mk_comb(alloc: Global, function: Changed, argument: Changed) -> Conversion {
     let term = Term::mk_comb(alloc, &function.term, &argument.term)?;
     let just = hol_tactics_forms::mk_comb(alloc, Ok(function.just), Ok(argument.just));
     changed_to(term, just)

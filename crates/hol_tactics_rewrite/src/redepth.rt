@@ -1,7 +1,7 @@
 // REDEPTH_CONV: a term converted from the inside out, as long as there is something to convert.
 
 use crate::basic::{basic, beta_conv};
-use crate::changed::{Changed, abs, combined, trans};
+use crate::changed::{Conversion, abs, combined, trans};
 use crate::rules::{Rewrite, first_instance};
 use hol_host::HostFail;
 use hol_subst::variant;
@@ -47,22 +47,13 @@ impl Redepth {
     }
 
     /// The term in which no part can be converted, unless it is the term itself. It fails past 2,000 conversions.
-    pub(crate) fn convert(
-        &mut self,
-        alloc: Global,
-        term: &Term,
-    ) -> Result<Option<Changed>, HostFail> {
+    pub(crate) fn convert(&mut self, alloc: Global, term: &Term) -> Conversion {
         self.converted(alloc, term, DEPTH)
     }
 
     // The parts converted, and then the whole, again and again.
     #[cycle(converting)]
-    fn converted(
-        &mut self,
-        alloc: Global,
-        term: &Term,
-        depth: u32,
-    ) -> Result<Option<Changed>, HostFail> {
+    fn converted(&mut self, alloc: Global, term: &Term, depth: u32) -> Conversion {
         if depth == 0 {
             return Err(HostFail::Failed);
         }
@@ -77,12 +68,7 @@ impl Redepth {
 
     // The term converted as a whole, and what it becomes converted again.
     #[cycle(converting)]
-    fn whole_converted(
-        &mut self,
-        alloc: Global,
-        term: &Term,
-        depth: u32,
-    ) -> Result<Option<Changed>, HostFail> {
+    fn whole_converted(&mut self, alloc: Global, term: &Term, depth: u32) -> Conversion {
         let Some(made) = self.first_counted(alloc, term)? else {
             return Ok(None);
         };
@@ -92,12 +78,7 @@ impl Redepth {
 
     // The parts converted, unless nothing changes.
     #[cycle(converting)]
-    fn parts_converted(
-        &mut self,
-        alloc: Global,
-        term: &Term,
-        depth: u32,
-    ) -> Result<Option<Changed>, HostFail> {
+    fn parts_converted(&mut self, alloc: Global, term: &Term, depth: u32) -> Conversion {
         if let Some((variable, body)) = term.dest_abs() {
             return self.body_converted(alloc, variable, body, depth);
         }
@@ -117,7 +98,7 @@ impl Redepth {
         variable: &Term,
         body: &Term,
         depth: u32,
-    ) -> Result<Option<Changed>, HostFail> {
+    ) -> Conversion {
         let other = variant(alloc, &self.fixed, variable)?;
         let body = with_value(alloc, &other, variable, body)?;
         match self.converted(alloc, &body, depth)? {
@@ -134,14 +115,14 @@ impl Redepth {
         function: &Term,
         argument: &Term,
         depth: u32,
-    ) -> Result<Option<Changed>, HostFail> {
+    ) -> Conversion {
         let left = self.converted(alloc, function, depth)?;
         let right = self.converted(alloc, argument, depth)?;
         combined(alloc, function, left, argument, right)
     }
 
     // The term by the first conversion of it as a whole, which is counted.
-    fn first_counted(&mut self, alloc: Global, term: &Term) -> Result<Option<Changed>, HostFail> {
+    fn first_counted(&mut self, alloc: Global, term: &Term) -> Conversion {
         let changed = self.first_conversion(alloc, term)?;
         if changed.is_some() {
             self.count()?;
@@ -159,7 +140,7 @@ impl Redepth {
     }
 
     // The term by the first rule that it is an instance of, or by a clause.
-    fn first_conversion(&self, alloc: Global, term: &Term) -> Result<Option<Changed>, HostFail> {
+    fn first_conversion(&self, alloc: Global, term: &Term) -> Conversion {
         match first_instance(alloc, &self.rules, &self.fixed, term)? {
             None => self.first_clause(alloc, term),
             changed => Ok(changed),
@@ -167,7 +148,7 @@ impl Redepth {
     }
 
     // The term by a basic rewrite, where these are used, or by BETA_CONV.
-    fn first_clause(&self, alloc: Global, term: &Term) -> Result<Option<Changed>, HostFail> {
+    fn first_clause(&self, alloc: Global, term: &Term) -> Conversion {
         if self.is_basic {
             if let Some(changed) = basic(alloc, term)? {
                 return Ok(Some(changed));

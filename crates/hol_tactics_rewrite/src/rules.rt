@@ -1,7 +1,7 @@
 // Formulas as rules to rewrite by.
 
 use crate::basic::eqf_intro;
-use crate::changed::{Changed, changed_to};
+use crate::changed::{Conversion, changed_to};
 use hol_alpha::aconv;
 use hol_host::HostFail;
 use hol_just::{Goal, Just};
@@ -168,7 +168,7 @@ pub(crate) fn first_instance(
     rules: &[Rewrite],
     fixed: &[Term],
     term: &Term,
-) -> Result<Option<Changed>, HostFail> {
+) -> Conversion {
     for rule in rules {
         if let Some(changed) = rule.instance(alloc, fixed, term)? {
             return Ok(Some(changed));
@@ -179,12 +179,7 @@ pub(crate) fn first_instance(
 
 impl Rewrite {
     // The right side and the equation, where the left side becomes the term and the right side something else.
-    fn instance(
-        &self,
-        alloc: Global,
-        fixed: &[Term],
-        term: &Term,
-    ) -> Result<Option<Changed>, HostFail> {
+    fn instance(&self, alloc: Global, fixed: &[Term], term: &Term) -> Conversion {
         let Some(terms) = instance(alloc, fixed, &self.left, term)? else {
             return Ok(None);
         };
