@@ -10,6 +10,9 @@ use std::alloc::Global;
 // How many clauses there may be.
 const CLAUSES: usize = 2000;
 
+// The numbers of the routes of clauses.
+type Routes = Result<Vec<usize>, HostFail>;
+
 // A formula that is affirmed or denied.
 #[derive(Clone, Copy)]
 struct Signed<'a> {
@@ -190,7 +193,7 @@ impl Problem {
         of: Signed<'_>,
         scope: &mut Vec<Scoped>,
         depth: u32,
-    ) -> Result<Vec<usize>, HostFail> {
+    ) -> Routes {
         if depth == 0 {
             return Err(HostFail::Failed);
         }
@@ -208,12 +211,7 @@ impl Problem {
         }
     }
 
-    fn routes_of_atom(
-        &mut self,
-        alloc: Global,
-        of: Signed<'_>,
-        scope: &[Scoped],
-    ) -> Result<Vec<usize>, HostFail> {
+    fn routes_of_atom(&mut self, alloc: Global, of: Signed<'_>, scope: &[Scoped]) -> Routes {
         let leaf = Route::Leaf(Literal {
             positive: of.positive,
             atom: self.terms.of_term(alloc, of.formula, scope)?,
@@ -230,7 +228,7 @@ impl Problem {
         of: Two<'_>,
         scope: &mut Vec<Scoped>,
         depth: u32,
-    ) -> Result<Vec<usize>, HostFail> {
+    ) -> Routes {
         let left = self.routes_of(alloc, of.left, scope, depth)?;
         let right = self.routes_of(alloc, of.right, scope, depth)?;
         if of.are_facts {
@@ -250,7 +248,7 @@ impl Problem {
         positive: bool,
         scope: &mut Vec<Scoped>,
         depth: u32,
-    ) -> Result<Vec<usize>, HostFail> {
+    ) -> Routes {
         let first = Two {
             left: with_sign(p, !positive),
             right: with_sign(q, true),
@@ -274,7 +272,7 @@ impl Problem {
         of: Bound<'_>,
         scope: &mut Vec<Scoped>,
         depth: u32,
-    ) -> Result<Vec<usize>, HostFail> {
+    ) -> Routes {
         let (part, node) = if of.for_all {
             self.instance(alloc, of.variable)?
         } else {
@@ -337,7 +335,7 @@ impl Problem {
     }
 
     // Those of two facts.
-    fn facts(&mut self, first: Vec<usize>, second: Vec<usize>) -> Result<Vec<usize>, HostFail> {
+    fn facts(&mut self, first: Vec<usize>, second: Vec<usize>) -> Routes {
         let mut routes = self.through(Part::Side(true), first)?;
         let mut others = self.through(Part::Side(false), second)?;
         routes.append(&mut others)?;
@@ -345,7 +343,7 @@ impl Problem {
     }
 
     // The routes that go through a part to these.
-    fn through(&mut self, part: Part, inner: Vec<usize>) -> Result<Vec<usize>, HostFail> {
+    fn through(&mut self, part: Part, inner: Vec<usize>) -> Routes {
         let mut routes = inner;
         for route in routes.iter_mut() {
             *route = add(&mut self.routes, Route::Through(part, *route))?;
@@ -354,12 +352,7 @@ impl Problem {
     }
 
     // Each of the left beside each of the right.
-    fn both(
-        &mut self,
-        alloc: Global,
-        left: &[usize],
-        right: &[usize],
-    ) -> Result<Vec<usize>, HostFail> {
+    fn both(&mut self, alloc: Global, left: &[usize], right: &[usize]) -> Routes {
         if left.len().saturating_mul(right.len()) > CLAUSES {
             return Err(HostFail::Failed);
         }
