@@ -73,7 +73,7 @@ length_take : {X : Type 0} (xs : List X) (i : ℕ) → i < length xs → length 
 length_take xs i within = length-take-le i xs (omega arith)
 
 -- the entries before a place, and the entry there
-pub one_more_entry : (entries : List JournalEntry) (i : ℕ) (entry : JournalEntry) → slice_get entries i ≡ Some entry → take (i + 1) entries ≡ take i entries ++ entry ∷ []
+pub one_more_entry : {X : Type 0} (entries : List X) (i : ℕ) (entry : X) → slice_get entries i ≡ Some entry → take (i + 1) entries ≡ take i entries ++ entry ∷ []
 one_more_entry entries i entry there =
     take_more entries i entry (slice_get_within entries i entry there) ∙ ap (λ e. take i entries ++ e ∷ []) (get_or_from_slice_get entries i entry entry there)
 

@@ -5,6 +5,7 @@ pub mod KeptTheory
 pub mod WrittenLemmas
 pub mod MarkingLemmas
 pub mod WriterLemmas
+pub mod NamesLemmas
 pub mod LogEntries
 pub mod LogClaims
 pub mod EarlierEntries

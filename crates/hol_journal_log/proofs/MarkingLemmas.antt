@@ -1,21 +1,19 @@
 -- The steps of marking.
 use Rattle.std.proofs.Common.{get_or, Bor, Result, Ok, Err, OnOk, if◌then◌else◌, append_assoc, append-nil, ◌≡◌, ◌⊎◌, ℕ, zero, suc, ◌+◌, ◌<◌, ◌≤◌}
-use Rattle.std.proofs.Common.{List, [], ◌∷◌, ◌++◌, length, Bool, true, false, ◌||◌, Option, Some, None, refl, sym, ◌∙◌, ap, subst, inl, inr, arith}
+use Rattle.std.proofs.Common.{List, [], ◌∷◌, ◌++◌, length, Bool, true, false, ◌||◌, ◌&&◌, not, Option, Some, None, refl, sym, ◌∙◌, ap, subst, inl, inr, arith}
 use Rattle.std.specs.Prelude.{slice_get}
 use Rattle.std.specs.List.{list_any, slice_index_or, flat_map}
 use Rattle.indexmap.specs.IndexSet.{insert_key}
-use Rattle.hol_journal_log.proofs.StepLineLemmas.{both_parts-push}
 use Rattle.std.specs.Str.{bytes_eq}
 use Rattle.std.proofs.lemmas.Slice.Eq.{bytes_eq-Decides}
 use Rattle.hol_model.specs.Logic.Derivable.{IsMember}
 use Rattle.hol_model.specs.Goals.Goals.{Sequent}
 use Rattle.hol_model.proofs.Terms.Membership.{of_append, IsMember-append_left, IsMember-append_right}
-use Rattle.hol_model.proofs.Tests.{first_of_neither, second_of_neither}
 use Rattle.hol_journal.specs.Steps.{Step, by_refl, by_trans, by_mk_comb, by_abs, by_beta, by_assume, by_eq_mp, by_deduct, by_inst, by_inst_type}
-use Rattle.hol_journal.specs.Steps.{by_eta, by_select, by_definition, JournalEntry, derived, declared_type, declared_constant, entries_of, both_parts}
+use Rattle.hol_journal.specs.Steps.{by_eta, by_select, by_definition, JournalEntry, derived, declared_type, declared_constant, entries_of}
 use Rattle.hol_journal.specs.Journal.{added_by}
 use Rattle.hol_journal_log.specs.Needed.{names_in, introduced_by, IsNeeded, by_claim, by_citation, by_name, StandOnEarlier, MarksNeeded}
-use Rattle.hol_journal_log.specs.Marking.{IsMarkedAt, AreMarked, held_names, is_reached, cited_by, CitesWithin, IsEntryMarked, Marks, Notes, is_noted, IsMarkedFrom}
+use Rattle.hol_journal_log.specs.Marking.{IsMarkedAt, AreMarked, held_names, is_reached, cited_by, cited_at, CitesWithin, IsEntryMarked, Marks, Notes, is_noted, AreCitedFrom, names_of_marked, Introduces, IsSame, IsMentioned, IsMarkedFrom}
 
 pub Marks-twice : (first second third : List Bool) (xs ys : List ℕ) → Marks first second xs → Marks second third ys → Marks first third (xs ++ ys)
 Marks-twice first second third xs ys early late = record {
@@ -73,6 +71,14 @@ at_least (suc place) (suc number) above = elim (at_least place number (omega ari
 true_false : (test : Bool) → test ≡ true → test ≡ false → ⊥
 true_false test is is_not = cc
 
+introduced_in : (names : List (List ℕ)) (introduced : Option (List ℕ)) → is_noted names introduced ≡ true → (name : List ℕ) × (introduced ≡ Some name)
+introduced_in names None noted = cc
+introduced_in names (Some name) noted = (name, refl)
+
+-- an entry that introduces a noted name introduces one
+pub introduced_name : (names : List (List ℕ)) (entry : JournalEntry) → is_noted names (introduced_by entry) ≡ true → Introduces entry
+introduced_name names entry noted = introduced_in names (introduced_by entry) noted
+
 true_mark : (marks : List Bool) (place : ℕ) → slice_index_or marks place false ≡ true → IsMarkedAt marks place
 true_mark [] place at = cc
 true_mark (mark ∷ marks) zero at = ap Some at
@@ -83,7 +89,103 @@ false_mark [] place at not_at = cc
 false_mark (mark ∷ marks) zero at not_at = cc
 false_mark (mark ∷ marks) (suc place) at not_at = false_mark marks place at not_at
 
--- one entry further back
+-- the cited entries, one entry further back
+
+cited_below : (entries : List JournalEntry) (place number : ℕ) (entry : JournalEntry) → StandOnEarlier entries → slice_get entries place ≡ Some entry → IsMember number (cited_by entry) → number < place
+cited_below entries place number (derived step sequent) earlier there member = earlier.cites number place step sequent there member
+cited_below entries place number (declared_type name) earlier there member = absurd member
+cited_below entries place number (declared_constant name ty) earlier there member = absurd member
+
+-- what the entry at a place cites, as the place tells
+cited_member : (entries : List JournalEntry) (place number user : ℕ) (entry : JournalEntry) (step : Step) (sequent : Sequent) → slice_get entries place ≡ Some entry → user ≡ place
+    → slice_get entries user ≡ Some (derived step sequent) → IsMember number (entries_of step) → IsMember number (cited_by entry)
+cited_member entries place number user entry step sequent there here using member =
+    let same : entry ≡ derived step sequent = same_value (sym there ∙ ap (slice_get entries) (sym here) ∙ using) in
+    subst (λ e. IsMember number (cited_by e)) (sym same) member
+
+module _ (entries : List JournalEntry) (claimed : List ℕ) (place : ℕ) (entry : JournalEntry) (marks new_marks : List Bool)
+    (earlier : StandOnEarlier entries) (there : slice_get entries place ≡ Some entry) (cited : AreCitedFrom entries claimed (place + 1) marks) where
+  cited_needed : IsNeeded entries claimed place → (number : ℕ) (user : JournalEntry) → entry ≡ user → IsMember number (cited_by user) → IsNeeded entries claimed number
+  cited_needed is_needed number (derived step sequent) is member = by_citation number place step sequent is_needed (there ∙ ap Some is) member
+  cited_needed is_needed number (declared_type name) is member = absurd member
+  cited_needed is_needed number (declared_constant name ty) is member = absurd member
+
+  cited_of_marked : IsMarkedAt marks place → Marks marks new_marks (cited_by entry) → AreCitedFrom entries claimed place new_marks
+  cited_of_marked at more = record {
+    one_each = more.one_each ∙ cited.one_each;
+    needed = λ number marked. elim (more.only number marked) [
+      | inl before ↦ cited.needed number before
+      | inr member ↦ cited_needed (cited.needed place at) number entry refl member
+    ];
+    of_claims = λ number member. more.kept number (cited.of_claims number member);
+    cited = λ number user step sequent above marked using member. elim (at_least place user above) [
+      | inl here ↦ more.added number (cited_member entries place number user entry step sequent there here using member)
+      | inr later ↦ (elim (more.only user marked) [
+        | inl before ↦ more.kept number (cited.cited number user step sequent later before using member)
+        | inr inside ↦ (let less = cited_below entries place user entry earlier there inside in absurd (omega arith))
+      ])
+    ];
+  }
+
+  cited_of_unmarked : slice_index_or marks place false ≡ false → Marks marks new_marks [] → AreCitedFrom entries claimed place new_marks
+  cited_of_unmarked not_at more = record {
+    one_each = more.one_each ∙ cited.one_each;
+    needed = λ number marked. cited.needed number (before number marked);
+    of_claims = λ number member. more.kept number (cited.of_claims number member);
+    cited = λ number user step sequent above marked using member. elim (at_least place user above) [
+      | inl here ↦ absurd (false_mark marks place (subst (IsMarkedAt marks) here (before user marked)) not_at)
+      | inr later ↦ more.kept number (cited.cited number user step sequent later (before user marked) using member)
+    ];
+  }
+    where
+      before : (number : ℕ) → IsMarkedAt new_marks number → IsMarkedAt marks number
+      before number marked = elim (more.only number marked) [ inl old ↦ old | inr none ↦ absurd none ]
+
+  pub cited_further : Marks marks new_marks (cited_at place entry marks) → AreCitedFrom entries claimed place new_marks
+  cited_further more = go (slice_index_or marks place false) refl more
+    where
+      go : (test : Bool) → slice_index_or marks place false ≡ test → Marks marks new_marks (if test then cited_by entry else []) → AreCitedFrom entries claimed place new_marks
+      go true at more = cited_of_marked (true_mark marks place at) more
+      go false not_at more = cited_of_unmarked not_at more
+
+pub Marks-none : (marks : List Bool) → Marks marks marks []
+Marks-none marks = record { one_each = refl; kept = λ n h. h; added = λ n h. absurd h; only = λ n h. inl h }
+
+-- an entry that is not marked has nothing marked, and one that is what it cites
+pub cited_not_at : (place : ℕ) (entry : JournalEntry) (marks : List Bool) → slice_index_or marks place false ≡ false → Marks marks marks (cited_at place entry marks)
+cited_not_at place entry marks not_at = rw not_at (Marks-none marks)
+
+cited_at_marked : (place : ℕ) (entry : JournalEntry) (marks new_marks : List Bool) → slice_index_or marks place false ≡ true → Marks marks new_marks (cited_by entry)
+    → Marks marks new_marks (cited_at place entry marks)
+cited_at_marked place entry marks new_marks at more = rw at more
+
+-- an entry that is told has what it cites marked
+pub told_cited : (entries : List JournalEntry) (place : ℕ) (told entry : JournalEntry) (marks new_marks : List Bool) → slice_get entries place ≡ Some told → slice_get entries place ≡ Some entry
+    → slice_index_or marks place false ≡ true → Marks marks new_marks (cited_by told) → Marks marks new_marks (cited_at place entry marks)
+told_cited entries place told entry marks new_marks is there at more =
+    cited_at_marked place entry marks new_marks at (subst (λ e. Marks marks new_marks (cited_by e)) (same_value (sym is ∙ there)) more)
+
+-- the mark at a place, as an index reads it
+pub mark_there : (marks : List Bool) (place : ℕ) (mark value : Bool) → place < length marks → mark ≡ get_or marks place mark → mark ≡ value → slice_index_or marks place false ≡ value
+mark_there [] place mark value inside is same = absurd (omega arith)
+mark_there (first ∷ marks) zero mark value inside is same = sym is ∙ same
+mark_there (first ∷ marks) (suc place) mark value inside is same = mark_there marks place mark value (omega arith) is same
+
+-- the entries of noted names, one entry further back
+
+introduces_none_cited : (entry : JournalEntry) → Introduces entry → cited_by entry ≡ []
+introduces_none_cited (derived (by_definition name term) sequent) introduces = refl
+introduces_none_cited (declared_type name) introduces = refl
+introduces_none_cited (declared_constant name ty) introduces = refl
+introduces_none_cited (derived step sequent) introduces = cc
+
+either_reached : (at noted : Bool) → (not at && noted) ≡ false → (at ≡ true) ⊎ (noted ≡ false)
+either_reached true noted is = inl refl
+either_reached false noted is = inr is
+
+both_reached : (at noted : Bool) → (not at && noted) ≡ true → noted ≡ true
+both_reached true noted is = cc
+both_reached false noted is = is
 
 module _ (entries : List JournalEntry) (claimed : List ℕ) (place : ℕ) (entry : JournalEntry) (marks : List Bool) (names : List (List ℕ))
     (earlier : StandOnEarlier entries) (there : slice_get entries place ≡ Some entry) (marked : IsMarkedFrom entries claimed (place + 1) marks names) where
@@ -92,10 +194,10 @@ module _ (entries : List JournalEntry) (claimed : List ℕ) (place : ℕ) (entry
   reached (by_claim number member) = inl (marked.of_claims place member)
   reached (by_citation number user step sequent needed using member) =
       let above = earlier.cites place user step sequent using member in
-      inl (marked.cited place user step sequent (omega arith) (marked.complete user (omega arith) needed) using member)
+      inl (marked.cited place user step sequent (marked.complete user (omega arith) needed) using member)
   reached (by_name number user other using name needed at member here introduced) =
       let above = earlier.mentions place user other using name at member here introduced in
-      let noted : IsMember name names = marked.noted user using name (omega arith) (marked.complete user (omega arith) needed) at member in
+      let noted : IsMember name names = marked.noted user using name (marked.complete user (omega arith) needed) at member in
       let same : introduced_by entry ≡ Some name = cc in
       inr (rw same (member_noted names name noted))
 
@@ -106,45 +208,31 @@ module _ (entries : List JournalEntry) (claimed : List ℕ) (place : ℕ) (entry
     needed = marked.needed;
     mentioned = marked.mentioned;
     of_claims = marked.of_claims;
-    complete = λ number above is_needed. go number is_needed (at_or_above number above);
-    cited = λ number user step sequent above at using member. elim (at_or_above user above) [
-      | inl here ↦ absurd (unmarked (subst (IsMarkedAt marks) here at))
-      | inr later ↦ marked.cited number user step sequent later at using member
+    complete = λ number above is_needed. elim (at_least place number above) [
+      | inl here ↦ subst (IsMarkedAt marks) (sym here) (at_place (reached (subst (IsNeeded entries claimed) here is_needed)))
+      | inr later ↦ marked.complete number later is_needed
     ];
-    noted = λ user using name above at there_user member. elim (at_or_above user above) [
-      | inl here ↦ absurd (unmarked (subst (IsMarkedAt marks) here at))
-      | inr later ↦ marked.noted user using name later at there_user member
-    ];
+    cited = marked.cited;
+    noted = marked.noted;
   }
     where
-      at_or_above : (number : ℕ) → place ≤ number → (number ≡ place) ⊎ (place + 1 ≤ number)
-      at_or_above number above = at_least place number above
-
-      unmarked : IsMarkedAt marks place → ⊥
-      unmarked at = false_mark marks place at (first_of_neither (slice_index_or marks place false) (is_noted names (introduced_by entry)) not_reached)
-
-      go : (number : ℕ) → IsNeeded entries claimed number → (number ≡ place) ⊎ (place + 1 ≤ number) → IsMarkedAt marks number
-      go number is_needed (inr later) = marked.complete number later is_needed
-      go number is_needed (inl here) = elim (reached (subst (IsNeeded entries claimed) here is_needed)) [
-        | inl at ↦ subst (IsMarkedAt marks) (sym here) at
-        | inr noted ↦ absurd (true_false (is_noted names (introduced_by entry)) noted (second_of_neither (slice_index_or marks place false) (is_noted names (introduced_by entry)) not_reached))
+      at_place : IsMarkedAt marks place ⊎ (is_noted names (introduced_by entry) ≡ true) → IsMarkedAt marks place
+      at_place (inl at) = at
+      at_place (inr noted) = elim (either_reached (slice_index_or marks place false) (is_noted names (introduced_by entry)) not_reached) [
+        | inl at ↦ true_mark marks place at
+        | inr not_noted ↦ absurd (true_false (is_noted names (introduced_by entry)) noted not_noted)
       ]
 
-  -- where it is reached, it is needed, and it is marked with what it needs
-  module _ (new_marks : List Bool) (new_names : List (List ℕ)) (is_needed : IsNeeded entries claimed place)
-      (marks_more : Marks marks new_marks (place ∷ cited_by entry)) (notes_more : Notes names new_names (names_in entry)) where
-    cited_needed : (number : ℕ) (user : JournalEntry) → entry ≡ user → IsMember number (cited_by user) → IsNeeded entries claimed number
-    cited_needed number (derived step sequent) is member = by_citation number place step sequent is_needed (there ∙ ap Some is) member
-    cited_needed number (declared_type name) is member = absurd member
-    cited_needed number (declared_constant name ty) is member = absurd member
-
+  -- where it is reached, it is needed and cites nothing, and it is marked
+  module _ (new_marks : List Bool) (new_names : List (List ℕ)) (is_needed : IsNeeded entries claimed place) (introduces : Introduces entry)
+      (marks_more : Marks marks new_marks (place ∷ [])) (notes_more : Notes names new_names (names_in entry)) where
     marked_here : IsMarkedFrom entries claimed place new_marks new_names
     marked_here = record {
       one_each = marks_more.one_each ∙ marked.one_each;
       needed = λ number at. elim (marks_more.only number at) [
         | inl before ↦ marked.needed number before
         | inr (inl here) ↦ subst (IsNeeded entries claimed) (sym here) is_needed
-        | inr (inr member) ↦ cited_needed number entry refl member
+        | inr (inr none) ↦ absurd none
       ];
       mentioned = λ name member. elim (notes_more.only name member) [
         | inl before ↦ marked.mentioned name before
@@ -155,53 +243,45 @@ module _ (entries : List JournalEntry) (claimed : List ℕ) (place : ℕ) (entry
         | inl here ↦ marks_more.added number (inl here)
         | inr later ↦ marks_more.kept number (marked.complete number later needed)
       ];
-      cited = λ number user step sequent above at using member. elim (at_least place user above) [
-        | inl here ↦ marks_more.added number (inr (cited_member number user step sequent here using member))
-        | inr later ↦ (let needed = user_needed user at in marks_more.kept number (marked.cited number user step sequent later (marked.complete user later needed) using member))
+      cited = λ number user step sequent at using member. elim (marks_more.only user at) [
+        | inl before ↦ marks_more.kept number (marked.cited number user step sequent before using member)
+        | inr (inl here) ↦ absurd (none_cited number (cited_member entries place number user entry step sequent there here using member))
+        | inr (inr none) ↦ absurd none
       ];
-      noted = λ user using name above at there_user member. elim (at_least place user above) [
-        | inl here ↦ notes_more.added name (same_entry user using name here there_user member)
-        | inr later ↦ (let needed = user_needed user at in notes_more.kept name (marked.noted user using name later (marked.complete user later needed) there_user member))
+      noted = λ user using name at there_user member. elim (marks_more.only user at) [
+        | inl before ↦ notes_more.kept name (marked.noted user using name before there_user member)
+        | inr (inl here) ↦ notes_more.added name (same_entry user using name here there_user member)
+        | inr (inr none) ↦ absurd none
       ];
     }
       where
-        user_needed : (user : ℕ) → IsMarkedAt new_marks user → IsNeeded entries claimed user
-        user_needed user at = elim (marks_more.only user at) [
-          | inl before ↦ marked.needed user before
-          | inr (inl here) ↦ subst (IsNeeded entries claimed) (sym here) is_needed
-          | inr (inr member) ↦ cited_needed user entry refl member
-        ]
-
-        cited_member : (number user : ℕ) (step : Step) (sequent : Sequent) → user ≡ place → slice_get entries user ≡ Some (derived step sequent)
-            → IsMember number (entries_of step) → IsMember number (cited_by entry)
-        cited_member number user step sequent here using member =
-            let same : entry ≡ derived step sequent = same_value (sym there ∙ ap (slice_get entries) (sym here) ∙ using) in
-            subst (λ e. IsMember number (cited_by e)) (sym same) member
+        none_cited : (number : ℕ) → IsMember number (cited_by entry) → ⊥
+        none_cited number member = subst (IsMember number) (introduces_none_cited entry introduces) member
 
         same_entry : (user : ℕ) (using : JournalEntry) (name : List ℕ) → user ≡ place → slice_get entries user ≡ Some using → IsMember name (names_in using) → IsMember name (names_in entry)
         same_entry user using name here there_user member =
             let same : entry ≡ using = same_value (sym there ∙ ap (slice_get entries) (sym here) ∙ there_user) in
             subst (λ e. IsMember name (names_in e)) (sym same) member
 
-  -- an entry that is reached is needed
-  reached_needed : is_reached place entry marks names ≡ true → IsNeeded entries claimed place
-  reached_needed is = go (slice_index_or marks place false) refl is
-    where
-      go : (test : Bool) → slice_index_or marks place false ≡ test → (test || is_noted names (introduced_by entry)) ≡ true → IsNeeded entries claimed place
-      go true at is = marked.needed place (true_mark marks place at)
-      go false at is = by_introduced (introduced_by entry) refl is
-        where
-          by_introduced : (name : Option (List ℕ)) → introduced_by entry ≡ name → is_noted names name ≡ true → IsNeeded entries claimed place
-          by_introduced None introduced noted = cc
-          by_introduced (Some name) introduced noted =
-              let by = marked.mentioned name (noted_member names name noted) in
-              by_name place by.user entry by.using name by.needed by.there by.member there introduced
+  -- an entry that is reached introduces a name, and is needed
+
+  reached_name : is_reached place entry marks names ≡ true → is_noted names (introduced_by entry) ≡ true
+  reached_name is = both_reached (slice_index_or marks place false) (is_noted names (introduced_by entry)) is
+
+  reached_needed : (introduces : Introduces entry) → is_noted names (introduced_by entry) ≡ true → IsNeeded entries claimed place
+  reached_needed introduces noted =
+      let here : is_noted names (Some introduces.0) ≡ true = ap (is_noted names) (sym introduces.1) ∙ noted in
+      let by = marked.mentioned introduces.0 (noted_member names introduces.0 here) in
+      by_name place by.user entry by.using introduces.0 by.needed by.there by.member there introduces.1
 
   pub one_further : (new_marks : List Bool) (new_names : List (List ℕ)) → IsEntryMarked place entry marks names new_marks new_names → IsMarkedFrom entries claimed place new_marks new_names
   one_further new_marks new_names is = go (is_reached place entry marks names) refl
     where
       go : (test : Bool) → is_reached place entry marks names ≡ test → IsMarkedFrom entries claimed place new_marks new_names
-      go true reaches = marked_here new_marks new_names (reached_needed reaches) (is.marked reaches) (is.noted reaches)
+      go true reaches =
+          let noted = reached_name reaches in
+          let introduces : Introduces entry = introduced_name names entry noted in
+          marked_here new_marks new_names (reached_needed introduces noted) introduces (is.marked reaches) (is.noted reaches)
       go false passes = rw (is.kept_marks passes, is.kept_names passes) (passed passes)
 
 -- an entry that is neither marked nor cited
@@ -249,32 +329,9 @@ pub notes_two : {A E : Type 0} (answer : Result A E) (first second third : List 
 notes_two (Ok x) first second third xs ys zs is early late = subst (Notes first third) (sym is) (Notes-twice first second third xs ys early late)
 notes_two (Err e) first second third xs ys zs is early late = tt
 
--- what is noted already
-
-pub noted_already : (names : List (List ℕ)) (name : List ℕ) → is_noted names (Some name) ≡ true → Notes names names (name ∷ [])
-noted_already names name is = record {
-  kept = λ n h. h;
-  added = λ n h. elim h [ inl same ↦ subst (λ m. IsMember m names) (sym same) (noted_member names name is) | inr none ↦ absurd none ];
-  only = λ n h. inl h;
-}
-
-pub both_noted : (names : List (List ℕ)) (xs ys zs : List (List ℕ)) → zs ≡ xs ++ ys → Notes names names xs → Notes names names ys → Notes names names zs
-both_noted names xs ys zs is early late = subst (Notes names names) (sym is) (Notes-twice names names names xs ys early late)
-
-flat_map-push : {A B : Type 0} (f : A → List B) (xs : List A) (x : A) → flat_map f (xs ++ x ∷ []) ≡ flat_map f xs ++ f x
+pub flat_map-push : {A B : Type 0} (f : A → List B) (xs : List A) (x : A) → flat_map f (xs ++ x ∷ []) ≡ flat_map f xs ++ f x
 flat_map-push f [] x = append-nil (f x)
 flat_map-push f (y ∷ xs) x = ap (λ l. f y ++ l) (flat_map-push f xs x) ∙ sym (append_assoc (f y) (flat_map f xs) (f x))
-
--- one more pair of terms or types
-pub notes_pair_turn : {A : Type 0} (f : A → List (List ℕ)) (first second third fourth : List (List ℕ)) (front longer : List (A × A)) (x : A × A) → Notes first second (flat_map f (both_parts front))
-    → Notes second third (f x.0) → Notes third fourth (f x.1) → longer ≡ front ++ x ∷ [] → Notes first fourth (flat_map f (both_parts longer))
-notes_pair_turn f first second third fourth front longer x before one two is =
-    let all = Notes-twice first third fourth (flat_map f (both_parts front) ++ f x.0) (f x.1) (Notes-twice first second third (flat_map f (both_parts front)) (f x.0) before one) two in
-    let same : flat_map f (both_parts longer) ≡ (flat_map f (both_parts front) ++ f x.0) ++ f x.1 =
-    ap (λ l. flat_map f (both_parts l)) is
-    ∙ (ap (flat_map f) (both_parts-push front x.0 x.1)
-    ∙ (flat_map-push f (both_parts front ++ x.0 ∷ []) x.1 ∙ ap (λ l. l ++ f x.1) (flat_map-push f (both_parts front) x.0))) in
-    subst (Notes first fourth) (sym same) all
 
 -- the first marks
 
@@ -287,20 +344,34 @@ marked_more old new front longer number before more is = subst (AreMarked new) (
 pub entry_passed : (place : ℕ) (entry : JournalEntry) (marks : List Bool) (names : List (List ℕ)) → is_reached place entry marks names ≡ false → IsEntryMarked place entry marks names marks names
 entry_passed place entry marks names passes = record { marked = λ is. cc (is, passes); noted = λ is. cc (is, passes); kept_marks = λ _. refl; kept_names = λ _. refl }
 
-pub entry_marked : {A E : Type 0} (answer : Result A E) (place : ℕ) (entry : JournalEntry) (marks middle new_marks : List Bool)
-    (names new_names : List (List ℕ)) → is_reached place entry marks names ≡ true
-    → Marks marks middle (place ∷ []) → Marks middle new_marks (cited_by entry) → OnOk answer (Notes names new_names (names_in entry))
-    → OnOk answer (IsEntryMarked place entry marks names new_marks new_names)
-entry_marked (Ok x) place entry marks middle new_marks names new_names reaches first second notes = record {
-  marked = λ is. Marks-twice marks middle new_marks (place ∷ []) (cited_by entry) first second;
-  noted = λ is. notes;
-  kept_marks = λ is_not. cc (reaches, is_not);
-  kept_names = λ is_not. cc (reaches, is_not);
+pub entry_marked : {A E : Type 0} (answer : Result A E) (place : ℕ) (entry : JournalEntry) (marks new_marks : List Bool) (names new_names : List (List ℕ)) → is_reached place entry marks names ≡ true
+    → Marks marks new_marks (place ∷ []) → (Introduces entry → OnOk answer (Notes names new_names (names_in entry))) → OnOk answer (IsEntryMarked place entry marks names new_marks new_names)
+entry_marked (Ok x) place entry marks new_marks names new_names reaches more notes =
+    let noted = both_reached (slice_index_or marks place false) (is_noted names (introduced_by entry)) reaches in
+    record {
+      marked = λ is. more;
+      noted = λ is. notes (introduced_name names entry noted);
+      kept_marks = λ is_not. cc (reaches, is_not);
+      kept_names = λ is_not. cc (reaches, is_not);
+    }
+entry_marked (Err e) place entry marks new_marks names new_names reaches more notes = tt
+
+pub IsSame-same : (is_more : Bool) (marks : List Bool) → IsSame is_more is_more marks marks
+IsSame-same is_more marks = record { before = λ is. is; marks = λ is. refl }
+
+-- where it is told that there is more
+pub more_told : {A E : Type 0} (answer : Result A E) (was_more : Bool) (old new : List Bool) → OnOk answer (IsSame was_more true old new)
+more_told (Ok x) was_more old new = record { before = λ is_not. cc is_not; marks = λ is_not. cc is_not }
+more_told (Err e) was_more old new = tt
+
+pub IsSame-twice : (first second third : Bool) (a b c : List Bool) → IsSame first second a b → IsSame second third b c → IsSame first third a c
+IsSame-twice first second third a b c early late = record {
+  before = λ is. early.before (late.before is);
+  marks = λ is. late.marks is ∙ early.marks (late.before is);
 }
-entry_marked (Err e) place entry marks middle new_marks names new_names reaches first second notes = tt
 
 -- the entry at a place
-pub entry_at : (entries : List JournalEntry) (at : ℕ) → at < length entries → (entry : JournalEntry) × (slice_get entries at ≡ Some entry)
+pub entry_at : {X : Type 0} (entries : List X) (at : ℕ) → at < length entries → (entry : X) × (slice_get entries at ≡ Some entry)
 entry_at [] at within = absurd (omega arith)
 entry_at (first ∷ entries) zero within = (first, refl)
 entry_at (first ∷ entries) (suc at) within = entry_at entries at (omega arith)
@@ -323,14 +394,15 @@ introduces_nothing (derived (by_definition name term) sequent) adds = cc
 introduces_nothing (declared_type name) adds = cc
 introduces_nothing (declared_constant name ty) adds = cc
 
--- one that adds nothing is passed over, where it is not marked
-pub untold_passed : {A E : Type 0} (answer : Result A E) (place : ℕ) (entry : JournalEntry) (marks : List Bool) (names : List (List ℕ)) → added_by entry ≡ []
-    → OnOk answer (slice_index_or marks place false ≡ false) → OnOk answer (IsEntryMarked place entry marks names marks names)
-untold_passed (Ok x) place entry marks names adds unmarked =
+-- one that adds nothing is passed over
+pub untold_passed : (place : ℕ) (entry : JournalEntry) (marks : List Bool) (names : List (List ℕ)) → added_by entry ≡ [] → IsEntryMarked place entry marks names marks names
+untold_passed place entry marks names adds =
     let none : introduced_by entry ≡ None = introduces_nothing entry adds in
-    let passes : is_reached place entry marks names ≡ false = rw (unmarked, none) refl in
-    entry_passed place entry marks names passes
-untold_passed (Err e) place entry marks names adds unmarked = tt
+    entry_passed place entry marks names (passes (slice_index_or marks place false) (introduced_by entry) none)
+  where
+    passes : (at : Bool) (introduced : Option (List ℕ)) → introduced ≡ None → (not at && is_noted names introduced) ≡ false
+    passes true introduced none = refl
+    passes false introduced none = rw none refl
 
 -- an entry cites within the marks
 pub cites_within : (entries : List JournalEntry) (at count : ℕ) (entry : JournalEntry) → StandOnEarlier entries → slice_get entries at ≡ Some entry → at < count → CitesWithin entry count
@@ -339,23 +411,70 @@ cites_within entries at count (declared_type name) earlier there below number me
 cites_within entries at count (declared_constant name ty) earlier there below number member = absurd member
 
 -- before any entry is looked at
-pub marking_begun : (entries : List JournalEntry) (claimed : List ℕ) (marks : List Bool) → StandOnEarlier entries → length marks ≡ length entries → AreMarked marks claimed
-    → ((number : ℕ) → IsMember number claimed → number < length entries) → IsMarkedFrom entries claimed (length entries) marks []
-marking_begun entries claimed marks earlier one_each are below = record {
+
+pub citing_begun : (entries : List JournalEntry) (claimed : List ℕ) (marks : List Bool) → length marks ≡ length entries → AreMarked marks claimed → AreCitedFrom entries claimed (length entries) marks
+citing_begun entries claimed marks one_each are = record {
   one_each = one_each;
   needed = λ number at. by_claim number (are.only number at);
-  mentioned = λ name member. absurd member;
   of_claims = are.all;
+  cited = λ number user step sequent above at using member. (let less = within marks user true at in absurd (omega arith));
+}
+
+-- the names that marked entries mention
+
+module _ (name : List ℕ) where
+  names_of_user : (entries : List JournalEntry) (marks : List Bool) (user : ℕ) (using : JournalEntry) → IsMarkedAt marks user → slice_get entries user ≡ Some using
+      → IsMember name (names_in using) → IsMember name (names_of_marked entries marks)
+  names_of_user [] marks user using at there member = cc
+  names_of_user (entry ∷ entries) [] user using at there member = cc
+  names_of_user (entry ∷ entries) (true ∷ marks) zero using at there member =
+      let same : entry ≡ using = same_value there in
+      IsMember-append_left name (names_in entry) (names_of_marked entries marks) (subst (λ e. IsMember name (names_in e)) (sym same) member)
+  names_of_user (entry ∷ entries) (false ∷ marks) zero using at there member = cc
+  names_of_user (entry ∷ entries) (true ∷ marks) (suc user) using at there member =
+      IsMember-append_right name (names_in entry) (names_of_marked entries marks) (names_of_user entries marks user using at there member)
+  names_of_user (entry ∷ entries) (false ∷ marks) (suc user) using at there member = names_of_user entries marks user using at there member
+
+record IsUsed (entries : List JournalEntry) (marks : List Bool) (name : List ℕ) : Type 0 where
+  pub user : ℕ
+  pub using : JournalEntry
+  pub marked : IsMarkedAt marks user
+  pub there : slice_get entries user ≡ Some using
+  pub member : IsMember name (names_in using)
+
+used_later : (entry : JournalEntry) (mark : Bool) (entries : List JournalEntry) (marks : List Bool) (name : List ℕ) → IsUsed entries marks name → IsUsed (entry ∷ entries) (mark ∷ marks) name
+used_later entry mark entries marks name used = record { user = suc used.user; using = used.using; marked = used.marked; there = used.there; member = used.member }
+
+user_of_name : (entries : List JournalEntry) (marks : List Bool) (name : List ℕ) → IsMember name (names_of_marked entries marks) → IsUsed entries marks name
+user_of_name [] marks name member = absurd member
+user_of_name (entry ∷ entries) [] name member = absurd member
+user_of_name (entry ∷ entries) (true ∷ marks) name member = elim (of_append name (names_in entry) (names_of_marked entries marks) member) [
+  | inl here ↦ record { user = zero; using = entry; marked = refl; there = refl; member = here }
+  | inr later ↦ used_later entry true entries marks name (user_of_name entries marks name later)
+]
+user_of_name (entry ∷ entries) (false ∷ marks) name member = used_later entry false entries marks name (user_of_name entries marks name member)
+
+-- before any entry is looked at for its name
+pub naming_begun : (entries : List JournalEntry) (claimed : List ℕ) (marks : List Bool) (names : List (List ℕ)) → StandOnEarlier entries
+    → AreCitedFrom entries claimed 0 marks → Notes [] names (names_of_marked entries marks) → IsMarkedFrom entries claimed (length entries) marks names
+naming_begun entries claimed marks names earlier cited notes = record {
+  one_each = cited.one_each;
+  needed = cited.needed;
+  mentioned = λ name member. mentioned name (notes.only name member);
+  of_claims = cited.of_claims;
   complete = λ number above needed. none number above needed;
-  cited = λ number user step sequent above at using member. absurd (outside user above at);
-  noted = λ user using name above at there member. absurd (outside user above at);
+  cited = λ number user step sequent at using member. cited.cited number user step sequent (omega arith) at using member;
+  noted = λ user using name at there member. notes.added name (names_of_user name entries marks user using at there member);
 }
   where
-    outside : (user : ℕ) → length entries ≤ user → IsMarkedAt marks user → ⊥
-    outside user above at = let less = within marks user true at in omega arith
+    mentioned : (name : List ℕ) → IsMember name [] ⊎ IsMember name (names_of_marked entries marks) → IsMentioned entries claimed name
+    mentioned name (inl none) = absurd none
+    mentioned name (inr member) =
+        let used = user_of_name entries marks name member in
+        record { user = used.user; using = used.using; needed = cited.needed used.user used.marked; there = used.there; member = used.member }
 
     none : (number : ℕ) → length entries ≤ number → IsNeeded entries claimed number → IsMarkedAt marks number
-    none number above (by_claim n member) = are.all number member
+    none number above (by_claim n member) = cited.of_claims number member
     none number above (by_citation n user step sequent needed using member) =
         let less = earlier.cites number user step sequent using member in
         let inside = within entries user (derived step sequent) using in

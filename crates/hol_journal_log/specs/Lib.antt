@@ -4,6 +4,7 @@ pub mod Writing
 pub mod Marking
 pub mod Noted
 pub mod Writer
+pub mod WrittenNames
 pub mod LogAccepted
 pub mod Claims
 pub mod Pruning

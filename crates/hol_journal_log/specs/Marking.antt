@@ -1,5 +1,5 @@
 -- How the needed entries are marked, from the newest back.
-use Rattle.std.specs.Prelude.{[], ◌≡◌, ◌<◌, ◌≤◌, ◌⊎◌, ◌||◌, ℕ, ◌∷◌, List, map, Bool, true, false, Option, Some, None, length, slice_get}
+use Rattle.std.specs.Prelude.{[], ◌≡◌, ◌<◌, ◌≤◌, ◌⊎◌, ◌&&◌, not, if◌then◌else◌, ℕ, ◌∷◌, ◌++◌, List, map, Bool, true, false, Option, Some, None, length, slice_get}
 use Rattle.std.specs.List.{list_any, slice_index_or}
 use Rattle.std.specs.Str.{bytes_eq}
 use Rattle.std.proofs.Common.{Bor}
@@ -46,16 +46,43 @@ cited_by _ = []
 abbrev pub CitesWithin : JournalEntry → ℕ → Type 0
 CitesWithin entry count = (number : ℕ) → IsMember number (cited_by entry) → number < count
 
--- the entry at the place is marked or introduces a noted name
-abbrev pub is_reached : ℕ → JournalEntry → List Bool → List (List ℕ) → Bool
-is_reached place entry marks names = slice_index_or marks place false || is_noted names (introduced_by entry)
+-- what the entry at the place cites, if it is marked
+abbrev pub cited_at : ℕ → JournalEntry → List Bool → List ℕ
+cited_at place entry marks = if slice_index_or marks place false then cited_by entry else []
 
--- Where the entry at the place is reached, it is marked with those that it cites, and its names are noted; else all stays.
+-- Each marked entry is needed. The claimed entries are marked, and what marked entries from a place on cite.
+pub record AreCitedFrom (entries : List JournalEntry) (claimed : List ℕ) (place : ℕ) (marks : List Bool) : Type 0 where
+  pub one_each : length marks ≡ length entries
+  pub needed : (number : ℕ) → IsMarkedAt marks number → IsNeeded entries claimed number
+  pub of_claims : (number : ℕ) → IsMember number claimed → IsMarkedAt marks number
+  pub cited : (number user : ℕ) (step : Step) (sequent : Sequent) → place ≤ user → IsMarkedAt marks user
+      → slice_get entries user ≡ Some (derived step sequent) → IsMember number (entries_of step) → IsMarkedAt marks number
+
+-- the names that marked entries mention
+abbrev pub names_of_marked : List JournalEntry → List Bool → List (List ℕ)
+names_of_marked [] marks = []
+names_of_marked (entry ∷ entries) [] = []
+names_of_marked (entry ∷ entries) (true ∷ marks) = names_in entry ++ names_of_marked entries marks
+names_of_marked (entry ∷ entries) (false ∷ marks) = names_of_marked entries marks
+
+abbrev pub Introduces : JournalEntry → Type 0
+Introduces entry = (name : List ℕ) × (introduced_by entry ≡ Some name)
+
+-- the entry at the place introduces a noted name and is not marked
+abbrev pub is_reached : ℕ → JournalEntry → List Bool → List (List ℕ) → Bool
+is_reached place entry marks names = not (slice_index_or marks place false) && is_noted names (introduced_by entry)
+
+-- Where the entry at the place is reached, it is marked, and the names that it mentions are noted; else all stays.
 pub record IsEntryMarked (place : ℕ) (entry : JournalEntry) (old_marks : List Bool) (old_names : List (List ℕ)) (marks : List Bool) (names : List (List ℕ)) : Type 0 where
-  pub marked : is_reached place entry old_marks old_names ≡ true → Marks old_marks marks (place ∷ cited_by entry)
+  pub marked : is_reached place entry old_marks old_names ≡ true → Marks old_marks marks (place ∷ [])
   pub noted : is_reached place entry old_marks old_names ≡ true → Notes old_names names (names_in entry)
   pub kept_marks : is_reached place entry old_marks old_names ≡ false → marks ≡ old_marks
   pub kept_names : is_reached place entry old_marks old_names ≡ false → names ≡ old_names
+
+-- where it is told that nothing is marked besides, this is so
+pub record IsSame (was_more is_more : Bool) (old new : List Bool) : Type 0 where
+  pub before : is_more ≡ false → was_more ≡ false
+  pub marks : is_more ≡ false → new ≡ old
 
 -- a needed entry mentions the name
 pub record IsMentioned (entries : List JournalEntry) (claimed : List ℕ) (name : List ℕ) : Type 0 where
@@ -65,15 +92,15 @@ pub record IsMentioned (entries : List JournalEntry) (claimed : List ℕ) (name 
   pub there : slice_get entries user ≡ Some using
   pub member : IsMember name (names_in using)
 
--- The needed entries from a place on are marked, with those that they cite, and the names that they mention are noted.
--- Nothing else is marked but what is claimed, and nothing else is noted.
+-- Each marked entry is needed, and from a place on each needed one is marked. What marked entries cite is marked, and the
+-- names that they mention are noted, and no others.
 pub record IsMarkedFrom (entries : List JournalEntry) (claimed : List ℕ) (place : ℕ) (marks : List Bool) (names : List (List ℕ)) : Type 0 where
   pub one_each : length marks ≡ length entries
   pub needed : (number : ℕ) → IsMarkedAt marks number → IsNeeded entries claimed number
   pub mentioned : (name : List ℕ) → IsMember name names → IsMentioned entries claimed name
   pub of_claims : (number : ℕ) → IsMember number claimed → IsMarkedAt marks number
   pub complete : (number : ℕ) → place ≤ number → IsNeeded entries claimed number → IsMarkedAt marks number
-  pub cited : (number user : ℕ) (step : Step) (sequent : Sequent) → place ≤ user → IsMarkedAt marks user
+  pub cited : (number user : ℕ) (step : Step) (sequent : Sequent) → IsMarkedAt marks user
       → slice_get entries user ≡ Some (derived step sequent) → IsMember number (entries_of step) → IsMarkedAt marks number
-  pub noted : (user : ℕ) (using : JournalEntry) (name : List ℕ) → place ≤ user → IsMarkedAt marks user
+  pub noted : (user : ℕ) (using : JournalEntry) (name : List ℕ) → IsMarkedAt marks user
       → slice_get entries user ≡ Some using → IsMember name (names_in using) → IsMember name names

@@ -1,14 +1,13 @@
 // Which entries of a journal the log of some theorems needs.
-ghost use Rattle.std.specs.Prelude.{◌≡◌, ◌<◌, ℕ, List, [], ◌∷◌, ◌++◌, length, false, slice_get, Some, IfOk, IfErr, OnOk, IsTrue};
-ghost use Rattle.std.specs.List.{flat_map, slice_index_or};
+ghost use Rattle.std.specs.Prelude.{◌≡◌, ◌<◌, ℕ, List, [], ◌∷◌, length, false, slice_get, Some, IfOk, IfErr, OnOk, IsFalse};
 ghost use Rattle.hol_model.specs.Logic.Derivable.{IsMember};
 ghost use Rattle.hol_model.specs.declared.fault.Fault.TheVariants.{Memory};
 ghost use Rattle.hol_journal.specs.Steps as steps;
-ghost use Rattle.hol_journal.specs.Steps.{JournalEntry, terms_of, types_of, both_parts};
+ghost use Rattle.hol_journal.specs.Steps.{JournalEntry};
 ghost use Rattle.hol_journal.specs.Views.{step_of, entry_of};
-ghost use Rattle.hol_journal_log.specs.Needed.{names_in_type, names_in_term, names_in, introduced_by, MarksNeeded, StandOnEarlier};
+ghost use Rattle.hol_journal_log.specs.Needed.{names_in_type, names_in_term, names_in, introduced_by, StandOnEarlier};
 ghost use Rattle.hol_journal_log.specs.Marking as marking;
-ghost use Rattle.hol_journal_log.specs.Marking.{Marks, Notes, IsMarkedFrom};
+ghost use Rattle.hol_journal_log.specs.Marking.{Marks, Notes, AreCitedFrom, IsMarkedFrom};
 
 use hol_journal::Recorder;
 use hol_journal::entry::{Entry, Rule};
@@ -21,7 +20,7 @@ use std::marker::Model;
 
 /// The names that are noted.
 #[derive(Drop)]
-struct Names<'a> {
+pub(crate) struct Names<'a> {
     names: IndexSet<&'a str>,
 }
 
@@ -35,8 +34,8 @@ impl<'a> Model for Names<'a> {
 }
 
 impl<'a> Names<'a> {
-    // No names.
-    fn new(alloc: Global) -> Names<'a>
+    /// No names.
+    pub(crate) fn new(alloc: Global) -> Names<'a>
         ensures { result ≡ [] }
     {
         Names {
@@ -51,60 +50,52 @@ impl<'a> Names<'a> {
         self.names.contains(&name)
     }
 
-    // Notes a name.
-    fn note(&mut self, name: &'a str) -> Result<(), Fault>
+    /// Notes a name.
+    pub(crate) fn note(&mut self, name: &'a str) -> Result<(), Fault>
         ensures ok { OnOk result (Notes self.old self.new (name.now ∷ [])) }
         ensures err { IfErr result (λ fault. fault ≡ Memory) }
     {
         self.names.insert(name)?;
         Ok(())
     }
-
-    // Whether the names in a type are noted.
-    fn has_type(&self, ty: &Ty) -> bool
-        ensures { IsTrue result → Notes self.now self.now (names_in_type ty.now) }
-    {
-        match ty.parts() {
-            TypeParts::Variable(_) | TypeParts::Bool => true,
-            TypeParts::Function(domain, codomain) => {
-                self.has_type(domain) && self.has_type(codomain)
-            }
-            TypeParts::Declared(name) => self.contains(name),
-        }
-    }
-
-    // Whether the names in a term are noted.
-    fn has_term(&self, term: &Term) -> bool
-        ensures { IsTrue result → Notes self.now self.now (names_in_term term.now) }
-    {
-        match term.parts() {
-            Parts::Variable(_, ty) => self.has_type(ty),
-            Parts::Constant(name, ty) => self.contains(name) && self.has_type(ty),
-            Parts::Combination(function, argument) => {
-                self.has_term(function) && self.has_term(argument)
-            }
-            Parts::Abstraction(_, ty, body) => self.has_type(ty) && self.has_term(body),
-        }
-    }
 }
 
-/// Which entries are needed for the theorems of the claimed entries. Refusal: Memory, also where one of them is not kept.
-pub(crate) fn needed(
+/// Marks for the claimed entries, and for what marked entries cite. Refusal: Memory, also where a marked entry is not kept.
+pub(crate) fn cited(
     alloc: Global,
     recorder: &Recorder,
     claimed: &[usize],
 ) -> Result<Vec<bool>, Fault>
     requires earlier { StandOnEarlier recorder.now.entries }
     requires within { (number : ℕ) → IsMember number claimed.now → number < length recorder.now.entries }
-    ensures ok { IfOk result (λ marks. MarksNeeded recorder.now.entries claimed.now marks.items) }
+    ensures ok { IfOk result (λ marks. AreCitedFrom recorder.now.entries claimed.now 0 marks.items) }
     ensures err { IfErr result (λ fault. fault ≡ Memory) }
 {
     let mut marks = marks_of(alloc, recorder.entries(), claimed)?;
-    let mut names = Names::new(alloc);
-    match mark_all(recorder, claimed, &mut marks, &mut names) {
-        Ok(()) => Ok(marks),
-        Err(fault) => Err(fault),
+    mark_cited(recorder, claimed, &mut marks)?;
+    Ok(marks)
+}
+
+/// Marks besides the entries that introduce noted names, and notes the names that they mention. It is told whether any is
+/// marked. Where the names in what is cited are noted, what is marked then is what is needed.
+pub(crate) fn mark_named<'a>(
+    recorder: &'a Recorder,
+    claimed: &[usize],
+    marks: &mut Vec<bool>,
+    names: &mut Names<'a>,
+    is_more: &mut bool,
+) -> Result<(), Fault>
+    requires earlier { StandOnEarlier recorder.now.entries }
+    requires begun { IsMarkedFrom recorder.now.entries claimed.now (length recorder.now.entries) marks.old.items names.old }
+    ensures ok { OnOk result (IsMarkedFrom recorder.now.entries claimed.now 0 marks.new.items names.new) }
+    ensures same { OnOk result (IsFalse is_more.new → marks.new.items ≡ marks.old.items) }
+    ensures err { IfErr result (λ fault. fault ≡ Memory) }
+{
+    let count = recorder.entries();
+    for behind in 0..count {
+        name_stored(recorder, count - 1 - behind, marks, names, is_more)?;
     }
+    Ok(())
 }
 
 // So many marks, of which those of these numbers are set.
@@ -121,105 +112,111 @@ fn marks_of(alloc: Global, count: usize, numbers: &[usize]) -> Result<Vec<bool>,
     Ok(marks)
 }
 
-// Marks the needed entries, from the newest back.
-fn mark_all<'a>(
-    recorder: &'a Recorder,
-    claimed: &[usize],
-    marks: &mut Vec<bool>,
-    names: &mut Names<'a>,
-) -> Result<(), Fault>
+// Marks what marked entries cite, from the newest back.
+fn mark_cited(recorder: &Recorder, claimed: &[usize], marks: &mut Vec<bool>) -> Result<(), Fault>
     requires earlier { StandOnEarlier recorder.now.entries }
-    requires begun { IsMarkedFrom recorder.now.entries claimed.now (length recorder.now.entries) marks.old.items names.old }
-    ensures ok { OnOk result (IsMarkedFrom recorder.now.entries claimed.now 0 marks.new.items names.new) }
+    requires begun { AreCitedFrom recorder.now.entries claimed.now (length recorder.now.entries) marks.old.items }
+    ensures ok { OnOk result (AreCitedFrom recorder.now.entries claimed.now 0 marks.new.items) }
     ensures err { IfErr result (λ fault. fault ≡ Memory) }
 {
     let count = recorder.entries();
     for behind in 0..count {
-        mark_stored(recorder, count - 1 - behind, marks, names)?;
+        cite_stored(recorder, count - 1 - behind, marks)?;
     }
     Ok(())
 }
 
-// Marks the entry of a number, where it is needed, and what it needs.
-fn mark_stored<'a>(
+// Marks what the entry of a number cites, where it is marked.
+fn cite_stored(recorder: &Recorder, place: usize, marks: &mut Vec<bool>) -> Result<(), Fault>
+    requires earlier { StandOnEarlier recorder.now.entries }
+    requires place { place < length marks.old.items }
+    ensures ok { (entry : JournalEntry) → slice_get recorder.now.entries place ≡ Some entry
+        → OnOk result (Marks marks.old.items marks.new.items (marking.cited_at place entry marks.old.items)) }
+    ensures err { IfErr result (λ fault. fault ≡ Memory) }
+{
+    if !marks[place] {
+        return Ok(());
+    }
+    match recorder.stored(place)? {
+        Some(entry) => {
+            cite(entry, marks);
+            Ok(())
+        }
+        None => Err(Fault::Memory),
+    }
+}
+
+// Marks what an entry cites.
+fn cite(entry: &Entry, marks: &mut Vec<bool>)
+    requires { marking.CitesWithin (entry_of entry.now) (length marks.old.items) }
+    ensures { Marks marks.old.items marks.new.items (marking.cited_by (entry_of entry.now)) }
+{
+    match entry {
+        Entry::Derived(rule, _) => cite_rule(rule, marks),
+        _ => {}
+    }
+}
+
+// Marks the entry of a number, where it introduces a noted name and is not marked, and notes the names that it mentions.
+fn name_stored<'a>(
     recorder: &'a Recorder,
     place: usize,
     marks: &mut Vec<bool>,
     names: &mut Names<'a>,
+    is_more: &mut bool,
 ) -> Result<(), Fault>
-    requires earlier { StandOnEarlier recorder.now.entries }
-    requires place { place < length marks.old.items }
+    requires { place < length marks.old.items }
     ensures ok { (entry : JournalEntry) → slice_get recorder.now.entries place ≡ Some entry
         → OnOk result (marking.IsEntryMarked place entry marks.old.items names.old marks.new.items names.new) }
+    ensures same { OnOk result (marking.IsSame is_more.old is_more.new marks.old.items marks.new.items) }
     ensures err { IfErr result (λ fault. fault ≡ Memory) }
 {
-    let stored = recorder.stored(place)?;
-    match stored {
-        Some(entry) => mark_entry(entry, place, marks, names),
-        None => pass_over(place, marks),
+    match recorder.stored(place)? {
+        Some(entry) => name_entry(entry, place, marks, names, is_more),
+        None => Ok(()),
     }
 }
 
-// An entry that is not kept is not needed, as far as is known.
-fn pass_over(place: usize, marks: &[bool]) -> Result<(), Fault>
-    requires { place < length marks.now }
-    ensures ok { OnOk result (slice_index_or marks.now place false ≡ false) }
-    ensures err { IfErr result (λ fault. fault ≡ Memory) }
-{
-    if marks[place] {
-        return Err(Fault::Memory);
-    }
-    Ok(())
-}
-
-// Marks an entry, where it is needed, and what it needs.
-fn mark_entry<'a>(
+// Marks an entry, where it introduces a noted name and is not marked, and notes the names that it mentions.
+fn name_entry<'a>(
     entry: &'a Entry,
     place: usize,
     marks: &mut Vec<bool>,
     names: &mut Names<'a>,
+    is_more: &mut bool,
 ) -> Result<(), Fault>
-    requires place { place < length marks.old.items }
-    requires within { marking.CitesWithin (entry_of entry.now) (length marks.old.items) }
+    requires { place < length marks.old.items }
     ensures ok { OnOk result (marking.IsEntryMarked place (entry_of entry.now) marks.old.items names.old marks.new.items names.new) }
+    ensures same { OnOk result (marking.IsSame is_more.old is_more.new marks.old.items marks.new.items) }
     ensures err { IfErr result (λ fault. fault ≡ Memory) }
 {
     if !is_reached(entry, place, marks, names) {
         return Ok(());
     }
+    *is_more = true;
     mark(place, marks);
-    mark_parts(entry, marks, names)
+    note_mentioned(entry, names)
 }
 
-// Marks what an entry cites, and notes the names that it mentions.
-fn mark_parts<'a>(
-    entry: &'a Entry,
-    marks: &mut Vec<bool>,
-    names: &mut Names<'a>,
-) -> Result<(), Fault>
-    requires { marking.CitesWithin (entry_of entry.now) (length marks.old.items) }
-    ensures marked { Marks marks.old.items marks.new.items (marking.cited_by (entry_of entry.now)) }
-    ensures noted { OnOk result (Notes names.old names.new (names_in (entry_of entry.now))) }
+// Notes the names that an entry mentions, where it introduces one.
+fn note_mentioned<'a>(entry: &'a Entry, names: &mut Names<'a>) -> Result<(), Fault>
+    ensures ok { marking.Introduces (entry_of entry.now) → OnOk result (Notes names.old names.new (names_in (entry_of entry.now))) }
     ensures err { IfErr result (λ fault. fault ≡ Memory) }
 {
     match entry {
-        Entry::Derived(rule, _) => {
-            mark_cited(rule, marks);
-            note_rule(rule, names)
-        }
         Entry::Defined(_, term) => note_term(term, names),
-        Entry::DeclaredType(_) => Ok(()),
         Entry::DeclaredConstant(_, ty) => note_type(ty, names),
+        _ => Ok(()),
     }
 }
 
-// Whether the entry is marked or introduces a noted name.
+// Whether the entry introduces a noted name and is not marked.
 fn is_reached(entry: &Entry, place: usize, marks: &[bool], names: &Names<'_>) -> bool
     requires { place < length marks.now }
     ensures { result ≡ marking.is_reached place (entry_of entry.now) marks.now names.now }
 {
     if marks[place] {
-        return true;
+        return false;
     }
     is_noted(names, entry)
 }
@@ -237,7 +234,7 @@ fn is_noted(names: &Names<'_>, entry: &Entry) -> bool
 }
 
 // Marks the entries that a rule cites.
-fn mark_cited(rule: &Rule, marks: &mut Vec<bool>)
+fn cite_rule(rule: &Rule, marks: &mut Vec<bool>)
     requires { (number : ℕ) → IsMember number (steps.entries_of (step_of rule.now)) → number < length marks.old.items }
     ensures { Marks marks.old.items marks.new.items (steps.entries_of (step_of rule.now)) }
 {
@@ -283,19 +280,7 @@ fn note_type<'a>(ty: &'a Ty, names: &mut Names<'a>) -> Result<(), Fault>
     }
 }
 
-// Notes the names in a term. Most terms have none that is not noted yet, which is told by a walk that compares no terms.
 fn note_term<'a>(term: &'a Term, names: &mut Names<'a>) -> Result<(), Fault>
-    ensures ok { OnOk result (Notes names.old names.new (names_in_term term.now)) }
-    ensures err { IfErr result (λ fault. fault ≡ Memory) }
-{
-    if names.has_term(term) {
-        return Ok(());
-    }
-    note_parts(term, names)
-}
-
-// Notes the names in a term, part by part.
-fn note_parts<'a>(term: &'a Term, names: &mut Names<'a>) -> Result<(), Fault>
     ensures ok { OnOk result (Notes names.old names.new (names_in_term term.now)) }
     ensures err { IfErr result (λ fault. fault ≡ Memory) }
 {
@@ -306,51 +291,12 @@ fn note_parts<'a>(term: &'a Term, names: &mut Names<'a>) -> Result<(), Fault>
             note_type(ty, names)
         }
         Parts::Combination(function, argument) => {
-            note_parts(function, names)?;
-            note_parts(argument, names)
+            note_term(function, names)?;
+            note_term(argument, names)
         }
         Parts::Abstraction(_, ty, body) => {
             note_type(ty, names)?;
-            note_parts(body, names)
+            note_term(body, names)
         }
-    }
-}
-
-fn note_term_pairs<'a>(pairs: &'a [(Term, Term)], names: &mut Names<'a>) -> Result<(), Fault>
-    ensures ok { OnOk result (Notes names.old names.new (flat_map names_in_term (both_parts pairs.now))) }
-    ensures err { IfErr result (λ fault. fault ≡ Memory) }
-{
-    for pair in pairs {
-        note_term(&pair.0, names)?;
-        note_term(&pair.1, names)?;
-    }
-    Ok(())
-}
-
-fn note_type_pairs<'a>(pairs: &'a [(Ty, Ty)], names: &mut Names<'a>) -> Result<(), Fault>
-    ensures ok { OnOk result (Notes names.old names.new (flat_map names_in_type (both_parts pairs.now))) }
-    ensures err { IfErr result (λ fault. fault ≡ Memory) }
-{
-    for pair in pairs {
-        note_type(&pair.0, names)?;
-        note_type(&pair.1, names)?;
-    }
-    Ok(())
-}
-
-// Notes the names in the terms and types of a rule.
-fn note_rule<'a>(rule: &'a Rule, names: &mut Names<'a>) -> Result<(), Fault>
-    ensures ok { OnOk result (Notes names.old names.new
-        (flat_map names_in_term (terms_of (step_of rule.now)) ++ flat_map names_in_type (types_of (step_of rule.now)))) }
-    ensures err { IfErr result (λ fault. fault ≡ Memory) }
-{
-    match rule {
-        Rule::Refl(term) => note_term(term, names),
-        Rule::Abs(binder, _) => note_term(binder, names),
-        Rule::Beta(term) => note_term(term, names),
-        Rule::Assume(term) => note_term(term, names),
-        Rule::Inst(_, pairs) => note_term_pairs(pairs, names),
-        Rule::InstType(_, pairs) => note_type_pairs(pairs, names),
-        _ => Ok(()),
     }
 }

@@ -3,15 +3,18 @@ ghost use Rattle.std.specs.Prelude.{◌≡◌, length, map, IfOk, IfErr, OnOk};
 ghost use Rattle.hol_model.specs.declared.fault.Fault.TheVariants.{Memory};
 ghost use Rattle.hol_logtext.specs.Lines.{line_of};
 ghost use Rattle.hol_journal_log.specs.Claims.{claims_of};
-ghost use Rattle.hol_journal_log.specs.LogWriting.{nothing_written, log_lines};
+ghost use Rattle.hol_journal_log.specs.LogWriting.{nothing_written, write_entries, log_lines};
+ghost use Rattle.hol_journal_log.specs.Marking.{AreCitedFrom};
+ghost use Rattle.hol_journal_log.specs.Needed.{MarksNeeded, StandOnEarlier};
 ghost use Rattle.hol_journal_log.specs.Pruning.{IsPruned, AreMade, AreFitting, HaveIdentifiers, HasNames, entries_of_claims};
 ghost use Rattle.hol_journal_log.specs.LogAccepted.{IsAccepted};
 ghost use Rattle.hol_journal_log.specs.Writer.{written};
+ghost use Rattle.hol_journal_log.specs.Writing.{KeepsNames};
 
 use crate::claim::Claim;
 use crate::fitting::formulas_fit;
 use crate::log_laws::journal_logs_are_accepted;
-use crate::needed::needed;
+use crate::needed::{Names, cited, mark_named};
 use crate::writer::Writer;
 use hol_journal::Recorder;
 use hol_logtext::Line;
@@ -49,9 +52,11 @@ fn claims_log<'a>(
     ensures err { IfErr result (λ fault. fault ≡ Memory) }
 {
     let _entry = recorder.stored(0);
-    let cited = cited_entries(alloc, claims)?;
-    let marks = needed(alloc, recorder, &cited)?;
-    log(alloc, recorder, &marks, claims)
+    let claimed = cited_entries(alloc, claims)?;
+    let mut marks = cited(alloc, recorder, &claimed)?;
+    let mut writer = Writer::new(alloc);
+    write_needed(alloc, recorder, &claimed, &mut marks, &mut writer)?;
+    lines_written(alloc, recorder, &marks, claims, &mut writer)
 }
 
 // The theorems of claims are theorems, of formulas within the limits.
@@ -77,23 +82,36 @@ fn cited_entries(alloc: Global, claims: &[Claim<'_>]) -> Result<Vec<usize>, Faul
     Ok(numbers)
 }
 
-// The log of the marked entries and the claims.
-fn log<'a>(
+// Writes the entries that the claimed ones need. The names that they mention are read off what is written, where each term
+// stands once. Mostly the entries that introduce these names are cited; else all is written again.
+fn write_needed<'a>(
     alloc: Global,
     recorder: &'a Recorder,
-    marks: &[bool],
-    claims: &[Claim<'a>],
-) -> Result<Vec<Line<'a>>, Fault>
-    requires { length marks.now ≡ length recorder.now.entries }
-    ensures lines { IfOk result (λ lines. map line_of lines.items ≡ log_lines recorder.now.entries marks.now (claims_of claims.now)) }
-    ensures named { IfOk result (λ lines. HasNames (map line_of lines.items)) }
+    claimed: &[usize],
+    marks: &mut Vec<bool>,
+    writer: &mut Writer<'a>,
+) -> Result<(), Fault>
+    requires earlier { StandOnEarlier recorder.now.entries }
+    requires cited { AreCitedFrom recorder.now.entries claimed.now 0 marks.old.items }
+    requires begun { written writer.old ≡ nothing_written }
+    ensures needed { OnOk result (MarksNeeded recorder.now.entries claimed.now marks.new.items) }
+    ensures written { OnOk result (written writer.new ≡ write_entries 0 recorder.now.entries marks.new.items nothing_written) }
+    ensures named { OnOk result (KeepsNames nothing_written (written writer.new)) }
     ensures err { IfErr result (λ fault. fault ≡ Memory) }
 {
-    let mut writer = Writer::new(alloc);
-    lines_written(alloc, recorder, marks, claims, &mut writer)
+    let mut names = Names::new(alloc);
+    let mut is_more = false;
+    writer.write_entries(alloc, recorder, marks)?;
+    writer.note_names(&mut names)?;
+    mark_named(recorder, claimed, marks, &mut names, &mut is_more)?;
+    if !is_more {
+        return Ok(());
+    }
+    *writer = Writer::new(alloc);
+    writer.write_entries(alloc, recorder, marks)
 }
 
-// Writes the log of the marked entries and the claims, and takes its lines.
+// Writes the claims behind the marked entries, and takes the lines.
 fn lines_written<'a>(
     alloc: Global,
     recorder: &'a Recorder,
@@ -101,13 +119,12 @@ fn lines_written<'a>(
     claims: &[Claim<'a>],
     writer: &mut Writer<'a>,
 ) -> Result<Vec<Line<'a>>, Fault>
-    requires begun { written writer.old ≡ nothing_written }
-    requires one_each { length marks.now ≡ length recorder.now.entries }
+    requires entries { written writer.old ≡ write_entries 0 recorder.now.entries marks.now nothing_written }
+    requires names { KeepsNames nothing_written (written writer.old) }
     ensures lines { IfOk result (λ lines. map line_of lines.items ≡ log_lines recorder.now.entries marks.now (claims_of claims.now)) }
     ensures named { IfOk result (λ lines. HasNames (map line_of lines.items)) }
     ensures err { IfErr result (λ fault. fault ≡ Memory) }
 {
-    writer.write_entries(alloc, recorder, marks)?;
     writer.write_claims(alloc, claims)?;
     writer.enclose(claims.len())?;
     Ok(writer.take_lines(alloc))

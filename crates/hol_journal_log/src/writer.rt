@@ -2,6 +2,7 @@
 ghost use Rattle.std.specs.Prelude.{◌≡◌, ◌+◌, length, List, [], ◌∷◌, ◌++◌, nat_eq, map, Some, slice_get, IfOk, IfErr, IfSome, OnOk, IsTrue, IsFalse};
 ghost use Rattle.std.specs.List.{list_any};
 ghost use Rattle.hol_model.specs.Terms.NamedTerm.{NamedTerm};
+ghost use Rattle.hol_model.specs.Logs.LogLine.{LogLine};
 ghost use Rattle.hol_model.specs.Logs.LogLine.LogLine.{header_line, theorem_line, end_line};
 ghost use Rattle.hol_model.specs.Logs.LogLine.LogVersion.{second_version};
 ghost use Rattle.hol_model.specs.declared.fault.Fault.TheVariants.{Memory};
@@ -13,12 +14,15 @@ ghost use Rattle.hol_journal_log.specs.LogWriting.{Written, Claimed, nothing_wri
 ghost use Rattle.hol_model.specs.Terms.NamedTerm.{variable, constant};
 ghost use Rattle.hol_model.specs.Terms.Name.{is_identifier};
 ghost use Rattle.hol_journal_log.specs.LogAccepted.{has_name};
+ghost use Rattle.hol_journal_log.specs.Marking.{Notes};
+ghost use Rattle.hol_journal_log.specs.WrittenNames.{name_in_line, names_in_lines, names_written};
 ghost use Rattle.hol_journal_log.specs.Writing.{KeepsNames, StandBelow, write_marked, AreTypesWritten, AreTermsWritten, IsStepWritten, IsTypeLineWritten, IsTermLineWritten, IsTypeWritten, IsTermWritten};
 ghost use Rattle.hol_journal_log.specs.Claims.{claims_of};
 ghost use Rattle.hol_journal_log.specs.Writer.{line_of_type, line_of_term, written};
 
 use crate::claim::Claim;
 use crate::mark::mark_of;
+use crate::needed::Names;
 use hol_journal::Recorder;
 use hol_journal::entry::{Entry, Rule};
 use hol_kernel::Thm;
@@ -59,6 +63,17 @@ impl<'a> TypeLine<'a> {
             TypeLine::Declared(name) => Line::DeclaredType(name),
         }
     }
+
+    // Notes the name, where it is that of a declared type.
+    fn note_name(self, names: &mut Names<'a>) -> Result<(), Fault>
+        ensures ok { OnOk result (Notes names.old names.new (name_in_line (line_of_type self.entry))) }
+        ensures err { IfErr result (λ fault. fault ≡ Memory) }
+    {
+        match self {
+            TypeLine::Declared(name) => names.note(name),
+            _ => Ok(()),
+        }
+    }
 }
 
 impl<'a> TermLine<'a> {
@@ -70,6 +85,17 @@ impl<'a> TermLine<'a> {
             TermLine::Constant(name, ty) => Line::Constant(name, ty),
             TermLine::Combination(function, argument) => Line::Combination(function, argument),
             TermLine::Abstraction(binder, body) => Line::Abstraction(binder, body),
+        }
+    }
+
+    // Notes the name, where it is that of a constant.
+    fn note_name(self, names: &mut Names<'a>) -> Result<(), Fault>
+        ensures ok { OnOk result (Notes names.old names.new (name_in_line (line_of_term self.entry))) }
+        ensures err { IfErr result (λ fault. fault ≡ Memory) }
+    {
+        match self {
+            TermLine::Constant(name, _) => names.note(name),
+            _ => Ok(()),
         }
     }
 }
@@ -551,10 +577,52 @@ impl<'a> Writer<'a> {
         if !mark {
             return Ok(());
         }
-        match recorder.stored(number) {
-            Ok(Some(entry)) => self.write_entry(alloc, number, entry),
-            Ok(None) => Err(Fault::Memory),
-            Err(fault) => Err(fault),
+        match recorder.stored(number)? {
+            Some(entry) => self.write_entry(alloc, number, entry),
+            None => Err(Fault::Memory),
+        }
+    }
+
+    /// Notes the names of declared types and of constants in what is written.
+    pub(crate) fn note_names(&self, names: &mut Names<'a>) -> Result<(), Fault>
+        ensures ok { OnOk result (Notes names.old names.new (names_written (written self.now))) }
+        ensures err { IfErr result (λ fault. fault ≡ Memory) }
+    {
+        for at in 0..self.types.len() {
+            self.note_declared(at, names)?;
+        }
+        self.note_constants(names)
+    }
+
+    fn note_constants(&self, names: &mut Names<'a>) -> Result<(), Fault>
+        ensures ok { OnOk result (Notes names.old names.new (names_in_lines (written self.now).terms)) }
+        ensures err { IfErr result (λ fault. fault ≡ Memory) }
+    {
+        for at in 0..self.terms.len() {
+            self.note_constant(at, names)?;
+        }
+        Ok(())
+    }
+
+    // Notes the name of a declared type, where the type of this number is one.
+    fn note_declared(&self, at: usize, names: &mut Names<'a>) -> Result<(), Fault>
+        ensures ok { (line : LogLine) → slice_get (written self.now).types at ≡ Some line → OnOk result (Notes names.old names.new (name_in_line line)) }
+        ensures err { IfErr result (λ fault. fault ≡ Memory) }
+    {
+        match self.types.get_index(at) {
+            Some(line) => line.note_name(names),
+            None => Ok(()),
+        }
+    }
+
+    // Notes the name of a constant, where the term of this number is one.
+    fn note_constant(&self, at: usize, names: &mut Names<'a>) -> Result<(), Fault>
+        ensures ok { (line : LogLine) → slice_get (written self.now).terms at ≡ Some line → OnOk result (Notes names.old names.new (name_in_line line)) }
+        ensures err { IfErr result (λ fault. fault ≡ Memory) }
+    {
+        match self.terms.get_index(at) {
+            Some(line) => line.note_name(names),
+            None => Ok(()),
         }
     }
 

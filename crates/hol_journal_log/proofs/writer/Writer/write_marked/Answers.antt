@@ -9,7 +9,7 @@ returns-then-not-mark-clause-below c = unmarked_below c.args.number (written c.a
 pub write_entry-requires : goal.write_entry-requires
 write_entry-requires c = none_there c.args.number c.args.self.now.theorems.keys c.requires.below
 
-pub returns-in-Ok-Some-clause-below : goal.returns-in-Ok-Some-clause-below
-returns-in-Ok-Some-clause-below c =
-    marked_answers c.write_entry.result c.args.number (entry_of c.in-Ok-Some.entry.now) (written c.args.self.now)
+pub returns-in-Some-clause-below : goal.returns-in-Some-clause-below
+returns-in-Some-clause-below c =
+    marked_answers c.write_entry.result c.args.number (entry_of c.in-Some.entry.now) (written c.args.self.now)
     (written c.write_entry.new.self) c.requires c.write_entry.ensures.ok
