@@ -3,6 +3,7 @@
 
 Its calls are those of `rt ci`, but each sum of sources is made once, and what was proved is kept by that sum in the folder KEPT, where
 kept.py finds it. KEPT/log tells what is under way; the output of a proof that failed stands beside it. It gives no verdict: `rt ci` does."""
+import fcntl
 import hashlib
 import os
 import shutil
@@ -21,9 +22,15 @@ def tell(text):
 
 
 def prove(crate, flags, tests):
-    """Proves a crate, or its tests, unless that is kept."""
+    """Proves a crate, or its tests, unless that is kept. A run that meets a proof of the same text under way waits for it."""
     what = "tests" if tests else "proof"
     kept = f"{KEPT}/{crate.name}-{what}-{crate.stamp()[:24]}"
+    with open(f"{kept}.lock", "w", encoding="utf-8") as lock:
+        fcntl.flock(lock, fcntl.LOCK_EX)
+        return proved(crate, flags, tests, what, kept)
+
+
+def proved(crate, flags, tests, what, kept):
     made = [f"{crate.name}_tests"] if tests else [crate.name, f"{crate.name}.by-rattle"] if crate.is_program else ["rlib"]
     status = 0
     if is_kept(kept):
