@@ -4,11 +4,24 @@
 use holp_commands::run_command;
 use std::alloc::{AllocError, Global};
 use std::fs;
+use std::io::Write;
+
+// The last word of a line whose command writes a file to standard output. Another user's output cannot be opened by this name, so
+// the command writes a file, which is printed behind what it writes itself.
+const STANDARD_OUTPUT: &str = "/dev/stdout";
+
+// The file in place of standard output.
+const WRITTEN: &str = "written.log";
 
 // The words of a command line, of which the first is the program's name; `$` stands before them.
 fn words_of(alloc: Global, line: &str) -> Result<Vec<String>, AllocError> {
     let mut words = Vec::new(alloc);
     for word in line.split_whitespace().skip(1) {
+        let word = if word == STANDARD_OUTPUT {
+            WRITTEN
+        } else {
+            word
+        };
         words.push(String::from_str(alloc, word)?)?;
     }
     Ok(words)
@@ -27,6 +40,9 @@ fn run_line(rt: &HostRuntime, line: &str) -> anyhow::Result<()> {
     };
     if status != 0 {
         println!(rt; "[{status}]")?;
+    } else if line.ends_with(STANDARD_OUTPUT) {
+        let written = fs::read_to_string(rt, WRITTEN)?;
+        rt.stdout().write_all(written.as_bytes())?;
     }
     Ok(())
 }
