@@ -129,25 +129,17 @@ impl Arguments {
 
     /// The term that the word at a place in the list quotes.
     pub(crate) fn term_at(&self, at: usize) -> Option<&Quotation> {
-        for number in 0..self.terms.len() {
-            if let Some(quotation) = self.term(number) {
-                if quotation.at == at {
-                    return Some(quotation);
-                }
-            }
-        }
-        None
+        let mut terms = self.terms.iter();
+        let found = terms.position(|term| matches!(term, Some(term) if term.at == at))?;
+        self.term(found)
     }
 
     /// The theorem that the word at a place in the list names.
     pub(crate) fn theorem_at(&self, at: usize) -> Option<&Premise> {
-        for number in 0..self.theorems.len() {
-            if let Some(premise) = self.theorem(number) {
-                if premise.at == at {
-                    return Some(premise);
-                }
-            }
-        }
-        None
+        let mut theorems = self.theorems.iter();
+        let found = theorems.position(
+            |theorem| matches!(theorem, Some(theorem) if theorem.at == at),
+        )?;
+        self.theorem(found)
     }
 }

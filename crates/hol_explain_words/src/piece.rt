@@ -28,29 +28,27 @@ pub fn between(bytes: &[u8], start: usize, end: usize) -> &[u8] {
     }
 }
 
-impl Piece<'_> {
+impl<'a> Piece<'a> {
     /// A command with its words.
-    pub fn new<'a>(alloc: Global, bytes: &'a [u8]) -> Result<Piece<'a>, NoMemory> {
-        let words = words_of(alloc, bytes)?;
+    pub fn new(alloc: Global, bytes: &'a [u8]) -> Result<Piece<'a>, NoMemory> {
         Ok(Piece {
             bytes,
-            words,
+            words: words_of(alloc, bytes)?,
             called: "command",
             is_quote: false,
         })
     }
 
     /// A text that stood between backquotes, with its words.
-    pub fn of_quote<'a>(alloc: Global, bytes: &'a [u8]) -> Result<Piece<'a>, NoMemory> {
-        let words = words_of(alloc, bytes)?;
-        Ok(Piece {
-            bytes,
-            words,
-            called: "quoted text",
-            is_quote: true,
-        })
+    pub fn of_quote(alloc: Global, bytes: &'a [u8]) -> Result<Piece<'a>, NoMemory> {
+        let mut quote = Piece::new(alloc, bytes)?;
+        quote.called = "quoted text";
+        quote.is_quote = true;
+        Ok(quote)
     }
+}
 
+impl Piece<'_> {
     /// The word at a place in the list, or the end of the text.
     pub fn word(&self, at: usize) -> Word {
         match self.words.get(at) {

@@ -4,57 +4,27 @@ ghost use Rattle.std.specs.Prelude.{◌≡◌, false};
 use hol_model::{DeviceFail, Sink};
 use std::alloc::Global;
 
-/// A sink that keeps what it takes.
+/// A sink that keeps what it takes, and fails once as many bytes are taken as it has room for.
 #[derive(Drop)]
 pub struct Kept {
-    pub bytes: Vec<u8>,
-    failed: bool,
-}
-
-impl Kept {
-    /// A sink that has taken nothing.
-    pub fn new(alloc: Global) -> Kept
-        ensures { result.failed ≡ false }
-    {
-        Kept {
-            bytes: Vec::new(alloc),
-            failed: false,
-        }
-    }
-}
-
-impl Sink for Kept {
-    ghost has_failed = { λ s. s.failed };
-
-    fn emit(&mut self, piece: &[u8]) -> Result<usize, DeviceFail> {
-        match self.bytes.extend_from_slice(piece) {
-            Ok(()) => Ok(piece.len()),
-            Err(_) => {
-                self.failed = true;
-                Err(DeviceFail)
-            }
-        }
-    }
-
-    fn failed(&self) -> bool {
-        self.failed
-    }
-}
-
-/// A sink that keeps what it takes, and fails once so many bytes are taken.
-#[derive(Drop)]
-pub struct Narrow {
     pub bytes: Vec<u8>,
     room: usize,
     failed: bool,
 }
 
-impl Narrow {
-    /// A sink that has taken nothing, with room for so many bytes.
-    pub fn new(alloc: Global, room: usize) -> Narrow
+impl Kept {
+    /// A sink that has taken nothing, with room for all that there may be.
+    pub fn new(alloc: Global) -> Kept
         ensures { result.failed ≡ false }
     {
-        Narrow {
+        Kept::with_room(alloc, usize::MAX)
+    }
+
+    /// A sink that has taken nothing, with room for so many bytes.
+    pub fn with_room(alloc: Global, room: usize) -> Kept
+        ensures { result.failed ≡ false }
+    {
+        Kept {
             bytes: Vec::new(alloc),
             room,
             failed: false,
@@ -62,7 +32,7 @@ impl Narrow {
     }
 }
 
-impl Sink for Narrow {
+impl Sink for Kept {
     ghost has_failed = { λ s. s.failed };
 
     fn emit(&mut self, piece: &[u8]) -> Result<usize, DeviceFail> {

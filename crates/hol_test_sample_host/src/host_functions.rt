@@ -10,21 +10,12 @@ pub(crate) fn twin(alloc: Global, goal: &Goal) -> Result<Step, HostFail> {
     let Some((_, half)) = goal.concl.dest_comb() else {
         return Err(HostFail::Failed);
     };
-    match halved(alloc, half) {
-        Ok(step) => Ok(step),
-        Err(fault) => Err(HostFail::from(fault)),
-    }
-}
-
-// CONJ of the theorem of one subgoal with itself.
-fn halved(alloc: Global, half: &Term) -> Result<Step, Fault> {
-    let just = step(alloc, Rule::Conj, &[sub(alloc, 0)?, sub(alloc, 0)?])?;
-    let mut goals = Vec::new(alloc);
-    goals.push(Goal {
-        asms: Vec::new(alloc),
-        concl: half.copy(alloc)?,
-    })?;
-    Ok(Step { goals, just })
+    answered(to_one(
+        alloc,
+        Vec::new(alloc),
+        half.copy(alloc),
+        twice(alloc, Rule::Conj),
+    ))
 }
 
 /// No step of any goal.
@@ -44,10 +35,7 @@ pub(crate) fn stranger(alloc: Global, _goal: &Goal) -> Result<Step, HostFail> {
 
 /// A subgoal that is no formula.
 pub(crate) fn shapeless(alloc: Global, goal: &Goal) -> Result<Step, HostFail> {
-    match to_a_predicate(alloc, &goal.concl) {
-        Ok(step) => Ok(step),
-        Err(fault) => Err(HostFail::from(fault)),
-    }
+    answered(to_a_predicate(alloc, &goal.concl))
 }
 
 /// No subgoals, by the subgoal of number 0.
@@ -67,18 +55,13 @@ pub(crate) fn deep(alloc: Global, _goal: &Goal) -> Result<Step, HostFail> {
 
 /// The subgoal of the same conclusion with the assumption `p` alone, whether the goal has that assumption or not.
 pub(crate) fn presuming(alloc: Global, goal: &Goal) -> Result<Step, HostFail> {
-    match from_p(alloc, &goal.concl) {
-        Ok(step) => Ok(step),
-        Err(fault) => Err(HostFail::from(fault)),
-    }
+    answered(from_p(alloc, &goal.concl))
 }
 
 /// The step of the goal `T`, with a subgoal that names a constant which no theory of these tests has.
 pub(crate) fn foreign(alloc: Global, goal: &Goal) -> Result<Step, HostFail> {
-    match beside_unknown(alloc, &goal.concl) {
-        Ok(step) => Ok(step),
-        Err(fault) => Err(HostFail::from(fault)),
-    }
+    let unknown = Term::mk_const(alloc, "unknown", goal.concl.ty());
+    answered(to_one(alloc, Vec::new(alloc), unknown, named(alloc, "TRUTH")))
 }
 
 /// No subgoals, by a theorem that is not stored.
@@ -96,54 +79,63 @@ pub(crate) fn vast(alloc: Global, _goal: &Goal) -> Result<Step, HostFail> {
     proved(alloc, doubled_to_the_limit(alloc))
 }
 
-// The step without subgoals by a justification, where it was made.
-fn proved(alloc: Global, made: Result<Just, Fault>) -> Result<Step, HostFail> {
+// What was made for a goal or a term, or why nothing was.
+fn answered<T: Drop>(made: Result<T, Fault>) -> Result<T, HostFail> {
     match made {
-        Ok(just) => Ok(Step {
-            goals: Vec::new(alloc),
-            just,
-        }),
+        Ok(answer) => Ok(answer),
         Err(fault) => Err(HostFail::from(fault)),
     }
+}
+
+// The step without subgoals by a justification, where it was made.
+fn proved(alloc: Global, made: Result<Just, Fault>) -> Result<Step, HostFail> {
+    let just = answered(made)?;
+    Ok(Step {
+        goals: Vec::new(alloc),
+        just,
+    })
+}
+
+// The step to one subgoal, where its conclusion and the justification were made.
+fn to_one(
+    alloc: Global,
+    asms: Vec<Term>,
+    concl: Result<Term, Fault>,
+    just: Result<Just, Fault>,
+) -> Result<Step, Fault> {
+    let mut step = Step {
+        goals: Vec::new(alloc),
+        just: just?,
+    };
+    step.goals.push(Goal {
+        asms,
+        concl: concl?,
+    })?;
+    Ok(step)
+}
+
+// A rule of which both premises are the theorem of the one subgoal.
+fn twice(alloc: Global, rule: Rule) -> Result<Just, Fault> {
+    step(alloc, rule, &[sub(alloc, 0)?, sub(alloc, 0)?])
 }
 
 // The subgoal `\x:bool. p` of p.
 fn to_a_predicate(alloc: Global, formula: &Term) -> Result<Step, Fault> {
     let variable = Term::mk_var(alloc, "x", formula.ty())?;
-    let mut goals = Vec::new(alloc);
-    goals.push(Goal {
-        asms: Vec::new(alloc),
-        concl: Term::mk_abs(alloc, &variable, formula)?,
-    })?;
-    let just = sub(alloc, 0)?;
-    Ok(Step { goals, just })
+    let predicate = Term::mk_abs(alloc, &variable, formula);
+    to_one(alloc, Vec::new(alloc), predicate, sub(alloc, 0))
 }
 
 // The subgoal of a formula under the assumption `p`.
 fn from_p(alloc: Global, formula: &Term) -> Result<Step, Fault> {
     let mut asms = Vec::new(alloc);
     asms.push(Term::mk_var(alloc, "p", formula.ty())?)?;
-    let concl = formula.copy(alloc)?;
-    let mut goals = Vec::new(alloc);
-    goals.push(Goal { asms, concl })?;
-    let just = sub(alloc, 0)?;
-    Ok(Step { goals, just })
-}
-
-// The subgoal of an unknown constant of a formula's type, and the justification by `TRUTH`.
-fn beside_unknown(alloc: Global, formula: &Term) -> Result<Step, Fault> {
-    let mut goals = Vec::new(alloc);
-    goals.push(Goal {
-        asms: Vec::new(alloc),
-        concl: Term::mk_const(alloc, "unknown", formula.ty())?,
-    })?;
-    let just = named(alloc, "TRUTH")?;
-    Ok(Step { goals, just })
+    to_one(alloc, asms, formula.copy(alloc), sub(alloc, 0))
 }
 
 // `T`, by PROVE_HYP of a part with itself, 1,999 times.
 fn doubled_to_the_limit(alloc: Global) -> Result<Just, Fault> {
-    let layer = step(alloc, Rule::ProveHyp, &[sub(alloc, 0)?, sub(alloc, 0)?])?;
+    let layer = twice(alloc, Rule::ProveHyp)?;
     let once = repeated(alloc, &layer, named(alloc, "TRUTH")?)?;
     let twice = repeated(alloc, &layer, once)?;
     around(alloc, &layer, twice)
@@ -151,8 +143,7 @@ fn doubled_to_the_limit(alloc: Global) -> Result<Just, Fault> {
 
 // `T`, by the first conjunct of CONJ of a part with itself, 999 times.
 fn doubled(alloc: Global) -> Result<Just, Fault> {
-    let both = step(alloc, Rule::Conj, &[sub(alloc, 0)?, sub(alloc, 0)?])?;
-    let first = step(alloc, Rule::Conjunct1, &[both])?;
+    let first = step(alloc, Rule::Conjunct1, &[twice(alloc, Rule::Conj)?])?;
     repeated(alloc, &first, named(alloc, "TRUTH")?)
 }
 
@@ -199,20 +190,19 @@ pub(crate) fn starved_conv(_alloc: Global, _term: &Term) -> Equated {
 
 /// `T`, by the theorem that the formula equals itself.
 pub(crate) fn twisted(alloc: Global, term: &Term) -> Equated {
-    converted(reflexive(alloc, term))
+    answered(reflexive(alloc, term))
 }
 
 /// `T`, by the assumption that the formula equals it.
 pub(crate) fn guess(alloc: Global, term: &Term) -> Equated {
-    converted(supposed(alloc, term))
+    answered(supposed(alloc, term))
 }
 
 /// `\y:A. y` of `\x:A. x`, and no answer of a term that binds another name.
 pub(crate) fn renamed(alloc: Global, term: &Term) -> Equated {
-    match identity_renamed(alloc, term) {
-        Ok(Some(equal)) => Ok(equal),
-        Ok(None) => Err(HostFail::Failed),
-        Err(fault) => Err(HostFail::from(fault)),
+    match answered(identity_renamed(alloc, term))? {
+        Some(equal) => Ok(equal),
+        None => Err(HostFail::Failed),
     }
 }
 
@@ -236,13 +226,6 @@ fn is_named_x(variable: &Term) -> bool {
     match variable.dest_var() {
         Some((name, _)) => name == "x",
         None => false,
-    }
-}
-
-fn converted(made: Result<(Term, Just), Fault>) -> Equated {
-    match made {
-        Ok(equal) => Ok(equal),
-        Err(fault) => Err(HostFail::from(fault)),
     }
 }
 
