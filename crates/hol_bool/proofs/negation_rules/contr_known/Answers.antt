@@ -26,7 +26,8 @@ returns-clause-outcome c =
     let concluded = c.conclusion_of-conclusion.ensures in
     let is_falsity : is_false premise.conclusion ≡ true = subst (λ (t : NamedTerm). is_false t ≡ true) concluded.value (sym c.is_named.ensures ∙ c.if-not-is_named.false) in
     let premise_is = false-is journal c.args.logic.now c.requires.logic concluded.legal premise.conclusion concluded.formula is_falsity in
-    let outcome : contr_outcome journal.theory a premise ≡ stated (images premise) a = rw (is_falsity, formula-tested a c.requires.formula.typed, no_unknown journal.theory a bool_type c.requires.formula.known) refl in
+    let outcome : contr_outcome journal.theory a premise ≡ stated (images premise) a =
+    rw (is_falsity, formula-tested a c.requires.formula.typed, no_unknown journal.theory a bool_type c.requires.formula.known) refl in
     answered c.by_leading_theorem.result (image a ∷ terms_of_theorem premise) (images premise) (images premise) a (contr_outcome journal.theory a premise)
     outcome (record { to = λ x m. m; back = λ x m. m })
     (λ room roomy. c.by_leading_theorem.ensures.derives (images premise) (image premise.conclusion) room

@@ -62,7 +62,8 @@ by_fitting_lemma-requires-clause-fits c =
     record {
       hypothesis = image leads.hypothesis;
       conclusion = image leads.stated;
-      lemma_shows = leads-shows c.args.recorder.now.theory c.args.number c.args.terms.now false premise (image c.args.stated.now) leads c.theorem_of-lemma.result.now.theorem c.theorem_of-lemma.ensures.theorem;
+      lemma_shows = leads-shows c.args.recorder.now.theory c.args.number c.args.terms.now false premise (image c.args.stated.now) leads
+          c.theorem_of-lemma.result.now.theorem c.theorem_of-lemma.ensures.theorem;
       premise_is = leads.premise_is;
     }
 
