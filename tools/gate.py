@@ -2,7 +2,8 @@
 """gate.py ROOT [CRATE..]: the gate over ROOT, or over these crates and those below, on a kit that keeps nothing from run to run
 
 Its calls are those of `rt ci`, but each sum of sources is made once, and what was proved is kept by that sum in the folder KEPT, where
-kept.py finds it. KEPT/log tells what is under way; the output of a proof that failed stands beside it. It gives no verdict: `rt ci` does."""
+kept.py finds it. KEPT/log tells what is under way; the output of a proof that failed stands beside it. It gives no verdict: `rt ci` does.
+Where crates are named, its last line counts the others as passed, though it has not looked at them."""
 import fcntl
 import hashlib
 import os
