@@ -31,6 +31,8 @@ struct TermNode {
     height: u32,
     // Whether a type variable stands in a type of the term.
     has_tyvars: bool,
+    // Whether an abstraction stands in the term.
+    has_binders: bool,
     // The classes of the names of the variables in the term, binders left out.
     names: NameClasses,
     ty: Ty,
@@ -82,6 +84,7 @@ impl Term {
     ghost use Rattle.hol_terms.specs.Term.{term_of_node, term_of_shape, IsTermNode, IsLeaf, IsNamed};
     ghost use Rattle.hol_terms.specs.Classes.{classes_of_names};
     ghost use Rattle.hol_terms.specs.TypeVariables.{has_type_variables};
+    ghost use Rattle.hol_terms.specs.Binders.{has_abstractions};
 
     fn from_node(alloc: Global, node: TermNode) -> Result<Term, Fault>
         requires { IsTermNode node }
@@ -123,6 +126,13 @@ impl Term {
         ensures { result ≡ has_type_variables self.now }
     {
         self.node.has_tyvars
+    }
+
+    /// Whether an abstraction stands in the term.
+    pub fn has_binders(&self) -> bool
+        ensures { result ≡ has_abstractions self.now }
+    {
+        self.node.has_binders
     }
 
     /// The classes of the names of the term's variables, binders left out: a variable whose name has another class is
@@ -203,6 +213,7 @@ impl Term {
                 nodes: 1,
                 height: 1,
                 has_tyvars,
+                has_binders: false,
                 names,
                 ty,
                 shape,
@@ -224,6 +235,7 @@ impl Term {
         }
         let ty = ty.copy(alloc)?;
         let has_tyvars = function.node.has_tyvars || argument.node.has_tyvars;
+        let has_binders = function.node.has_binders || argument.node.has_binders;
         let names = function.node.names.union(argument.node.names);
         let shape = TermShape::Combination(function.copy(alloc)?, argument.copy(alloc)?);
         Term::from_node(
@@ -232,6 +244,7 @@ impl Term {
                 nodes,
                 height,
                 has_tyvars,
+                has_binders,
                 names,
                 ty,
                 shape,
@@ -262,6 +275,7 @@ impl Term {
                 nodes,
                 height,
                 has_tyvars,
+                has_binders: true,
                 names,
                 ty,
                 shape,
