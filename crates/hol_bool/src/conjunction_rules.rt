@@ -22,7 +22,7 @@ use hol_prelude::Bool;
 use hol_prelude::numbers::{CONJ, CONJUNCT1, CONJUNCT2};
 use std::alloc::Global;
 
-/// CONJUNCT1: from `p /\ q`, `p`, in six steps. Refused where the conclusion is no conjunction.
+/// CONJUNCT1: from `p /\ q`, `p`, in at most five steps. Refused where the conclusion is no conjunction.
 #[tactic(auto, using(crate::proofs::InferredRules::infers_conjunct1))]
 pub fn conjunct1(
     recorder: &mut Recorder,
@@ -45,7 +45,7 @@ pub fn conjunct1(
     )
 }
 
-/// CONJUNCT2: from `p /\ q`, `q`, in six steps. Refused where the conclusion is no conjunction.
+/// CONJUNCT2: from `p /\ q`, `q`, in at most five steps. Refused where the conclusion is no conjunction.
 #[tactic(auto, using(crate::proofs::InferredRules::infers_conjunct2))]
 pub fn conjunct2(
     recorder: &mut Recorder,
@@ -100,7 +100,7 @@ pub(crate) fn conj_in_room(
     steps::eq_mp_known(recorder, alloc, &equation, second)
 }
 
-/// CONJ: from `p` and `q`, `p /\ q`, in seven steps.
+/// CONJ: from `p` and `q`, `p /\ q`, in at most six steps.
 #[tactic(auto, using(crate::proofs::InferredRules::infers_conj))]
 pub fn conj(
     recorder: &mut Recorder,

@@ -54,7 +54,7 @@ fn with_disjunct(
     by_theorem(recorder, alloc, logic, number, &terms, &stated, premise)
 }
 
-/// DISJ1: from `p`, `p \/ q`, in six steps. Refused where `q` is not of type `bool`, and then where the theory does not
+/// DISJ1: from `p`, `p \/ q`, in at most five steps. Refused where `q` is not of type `bool`, and then where the theory does not
 /// know a type or a constant of it.
 #[tactic(auto, using(crate::proofs::InferredRules::infers_disj1))]
 pub fn disj1(
@@ -76,7 +76,7 @@ pub fn disj1(
     with_disjunct(recorder, alloc, logic, DISJ1, p, q, premise)
 }
 
-/// DISJ2: from `q`, `p \/ q`, in six steps. Refused where `p` is not of type `bool`, and then where the theory does not
+/// DISJ2: from `q`, `p \/ q`, in at most five steps. Refused where `p` is not of type `bool`, and then where the theory does not
 /// know a type or a constant of it.
 #[tactic(auto, using(crate::proofs::InferredRules::infers_disj2))]
 pub fn disj2(
@@ -196,8 +196,8 @@ fn by_cases(
     with_case(recorder, alloc, logic, sides.right, r, &other, second)
 }
 
-/// DISJ_CASES: from `p \/ q`, `r` and `r`, `r` without the hypothesis `p` of the first case and `q` of the second, in 64
-/// steps. Refused where the conclusion is no disjunction, and then where the cases' conclusions differ in more than the names
+/// DISJ_CASES: from `p \/ q`, `r` and `r`, `r` without the hypothesis `p` of the first case and `q` of the second, in at
+/// most 55 steps. Refused where the conclusion is no disjunction, and then where the cases' conclusions differ in more than the names
 /// of bound variables.
 #[tactic(auto, using(crate::proofs::InferredRules::infers_disj_cases))]
 pub fn disj_cases(

@@ -55,7 +55,7 @@ pub fn mp_in_room(
     steps::eq_mp_known(recorder, alloc, &equation, first)
 }
 
-/// MP: from `p ==> q` and `p`, `q`, in seven steps. Refused where the first conclusion is no implication, and then where
+/// MP: from `p ==> q` and `p`, `q`, in at most six steps. Refused where the first conclusion is no implication, and then where
 /// the second is not its left side up to the names of bound variables.
 #[tactic(auto, using(crate::proofs::InferredRules::infers_mp))]
 pub fn mp(
@@ -154,7 +154,7 @@ pub fn disch_in_room(
     by_theorem(recorder, alloc, logic, DISCH, &terms, &stated, &equation)
 }
 
-/// DISCH: from `q`, `p ==> q` without the hypothesis `p`, in 22 steps. Refused where `p` is not of type `bool`, and then
+/// DISCH: from `q`, `p ==> q` without the hypothesis `p`, in at most 19 steps. Refused where `p` is not of type `bool`, and then
 /// where the theory does not know a type or a constant of it.
 #[tactic(auto, using(crate::proofs::InferredRules::infers_disch))]
 pub fn disch(
@@ -175,7 +175,7 @@ pub fn disch(
     disch_in_room(recorder, alloc, logic, p, premise)
 }
 
-/// UNDISCH: from `p ==> q`, `q` with the hypothesis `p`, in eight steps. Refused where the conclusion is no implication.
+/// UNDISCH: from `p ==> q`, `q` with the hypothesis `p`, in at most seven steps. Refused where the conclusion is no implication.
 #[tactic(auto, using(crate::proofs::InferredRules::infers_undisch, crate::proofs::PreludeSteps::staying))]
 pub fn undisch(
     recorder: &mut Recorder,

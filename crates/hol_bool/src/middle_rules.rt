@@ -15,7 +15,7 @@ use hol_prelude::numbers::EXCLUDED_MIDDLE;
 use hol_terms::Term;
 use std::alloc::Global;
 
-/// EXCLUDED_MIDDLE: `p \/ ~p`, in four steps. Refused where `p` is not of type `bool`, and then where the theory does not
+/// EXCLUDED_MIDDLE: `p \/ ~p`, in at most three steps. Refused where `p` is not of type `bool`, and then where the theory does not
 /// know a type or a constant of it.
 pub fn excluded_middle(
     recorder: &mut Recorder,

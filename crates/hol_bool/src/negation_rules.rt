@@ -19,7 +19,7 @@ use hol_prelude::numbers::{CONTR, NOT_ELIM, NOT_INTRO};
 use hol_terms::Term;
 use std::alloc::Global;
 
-/// NOT_INTRO: from `p ==> F`, `~p`, in six steps. Refused where the conclusion is no implication of `F`.
+/// NOT_INTRO: from `p ==> F`, `~p`, in at most five steps. Refused where the conclusion is no implication of `F`.
 #[tactic(auto, using(crate::proofs::InferredRules::infers_not_intro))]
 pub fn not_intro(
     recorder: &mut Recorder,
@@ -45,7 +45,7 @@ pub fn not_intro(
     by_theorem(recorder, alloc, logic, NOT_INTRO, &terms, &stated, premise)
 }
 
-/// NOT_ELIM: from `~p`, `p ==> F`, in six steps. Refused where the conclusion is no negation.
+/// NOT_ELIM: from `~p`, `p ==> F`, in at most five steps. Refused where the conclusion is no negation.
 #[tactic(auto, using(crate::proofs::InferredRules::infers_not_elim))]
 pub fn not_elim(
     recorder: &mut Recorder,
@@ -68,7 +68,7 @@ pub fn not_elim(
     by_theorem(recorder, alloc, logic, NOT_ELIM, &terms, &stated, premise)
 }
 
-/// CONTR: from `F`, `p`, in six steps. Refused where the conclusion is not `F`, then where `p` is not of type `bool`, and
+/// CONTR: from `F`, `p`, in at most five steps. Refused where the conclusion is not `F`, then where `p` is not of type `bool`, and
 /// then where the theory does not know a type or a constant of it. Walks `p`; where a proof shows that it is a formula that
 /// the theory knows, `contr_known`.
 #[tactic(auto, using(crate::proofs::InferredRules::infers_contr))]
@@ -94,7 +94,7 @@ pub fn contr(
     contr_known(recorder, alloc, logic, p, premise)
 }
 
-/// CONTR of a formula that the theory knows, which is not walked for it, in six steps. Refused where the conclusion is not
+/// CONTR of a formula that the theory knows, which is not walked for it, in at most five steps. Refused where the conclusion is not
 /// `F`.
 #[tactic(auto, using(crate::proofs::InferredRules::infers_contr))]
 pub fn contr_known(

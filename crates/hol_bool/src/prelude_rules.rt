@@ -26,8 +26,8 @@ use hol_prelude::{Bool, theorem_of};
 use hol_terms::Term;
 use std::alloc::Global;
 
-/// From the hypothesis of a theorem of the prelude at these terms, its conclusion there with these names, in six steps. The
-/// theory knows the terms and what is stated, which are not walked for it.
+/// From the hypothesis of a theorem of the prelude at these terms, its conclusion there with these names, in three steps,
+/// and two more where a variable is bound in it. The theory knows the terms and what is stated, which are not walked for it.
 pub(crate) fn by_theorem(
     recorder: &mut Recorder,
     alloc: Global,
@@ -76,8 +76,8 @@ pub(crate) fn by_leading_theorem(
     named_same(recorder, alloc, stated, &answer)
 }
 
-/// A theorem of the prelude without hypotheses, at these terms and with these names, in four steps. The theory knows the
-/// terms and what is stated, which are not walked for it.
+/// A theorem of the prelude without hypotheses, at these terms and with these names, in one step, and two more where a
+/// variable is bound in it. The theory knows the terms and what is stated, which are not walked for it.
 pub(crate) fn instance_of_theorem(
     recorder: &mut Recorder,
     alloc: Global,

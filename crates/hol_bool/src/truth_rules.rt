@@ -17,7 +17,7 @@ use hol_prelude::Bool;
 use hol_prelude::numbers::{EQT_ELIM, EQT_INTRO};
 use std::alloc::Global;
 
-/// EQT_INTRO: from `p`, `p <=> T`, in six steps.
+/// EQT_INTRO: from `p`, `p <=> T`, in at most five steps.
 #[tactic(auto, using(crate::proofs::InferredRules::infers_eqt_intro))]
 pub fn eqt_intro(
     recorder: &mut Recorder,
@@ -38,7 +38,7 @@ pub fn eqt_intro(
     by_theorem(recorder, alloc, logic, EQT_INTRO, &terms, &stated, premise)
 }
 
-/// EQT_ELIM: from `p <=> T`, `p`, in six steps. Refused where the conclusion is no equation with `T` on its right.
+/// EQT_ELIM: from `p <=> T`, `p`, in at most five steps. Refused where the conclusion is no equation with `T` on its right.
 #[tactic(auto, using(crate::proofs::InferredRules::infers_eqt_elim))]
 pub fn eqt_elim(
     recorder: &mut Recorder,

@@ -9,3 +9,4 @@ pub mod ConversionLemmas
 pub mod DrawnTerms
 pub mod DrawnEquality
 pub mod InferredEquality
+pub mod Exact

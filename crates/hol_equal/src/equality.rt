@@ -1,5 +1,5 @@
 // Derived rules without connectives.
-ghost use Rattle.std.specs.Prelude.{◌≡◌, List, [], ◌∷◌, ◌++◌, IfOk, IfSome, Some};
+ghost use Rattle.std.specs.Prelude.{◌≡◌, List, [], ◌∷◌, ◌++◌, IfOk, IfErr, IfSome, IsTrue, Some};
 ghost use Rattle.std.specs.List.{list_any};
 ghost use Rattle.std.specs.Option.{option_map, is_some};
 ghost use Rattle.hol_model.specs.Terms.NamedTerm.{combination, dest_abstraction};
@@ -11,10 +11,11 @@ ghost use Rattle.hol_model.specs.Terms.Measures.{nameless_within_limits};
 ghost use Rattle.hol_model.specs.Logic.Derivable.{without, nameless_equation};
 ghost use Rattle.hol_model.specs.Derived.DerivedRules.{AnswersStated, terms_of_theorem, sym_outcome, add_assum_outcome, prove_hyp_outcome, beta_conv_outcome};
 ghost use Rattle.hol_model.specs.Derived.InferenceRules.{rule_sym, rule_add_assum, rule_prove_hyp, rule_beta_conv};
+ghost use Rattle.hol_model.specs.declared.fault.Fault.TheVariants.{Memory};
 ghost use Rattle.hol_kernel.specs.Fits.{DeductFits};
 ghost use Rattle.hol_journal.specs.Journal.{IsMade, theorem_in};
 ghost use Rattle.hol_equal.specs.Formulas.{IsFormula};
-ghost use Rattle.hol_equal.specs.Sequents.{Shows, DerivesIf, Continues};
+ghost use Rattle.hol_equal.specs.Sequents.{Shows, DerivesIf, Continues, IsHeld};
 ghost use Rattle.hol_equal.specs.Inferred.{Infers};
 ghost use Rattle.hol_equal.specs.Conversions.{beta_converted_outcome};
 
@@ -128,14 +129,72 @@ pub fn named(
     steps::eq_mp(recorder, alloc, &reflexive, premise)
 }
 
-/// The theorem with this conclusion, which differs from its own in the names of bound variables alone, in two steps: of
-/// a formula that the theory knows, which is not walked for it.
+/// The theorem with this conclusion, which differs from its own in the names of bound variables alone: itself where nothing
+/// is bound, else in two steps. Of a formula that the theory knows, which is not walked for it, and a theorem on the
+/// recorder's theory.
 pub fn named_known(
     recorder: &mut Recorder,
     alloc: Global,
     term: &Term,
     premise: &Rec,
 ) -> Result<Rec, Fault>
+    requires premise { IsHeld recorder.old premise.now }
+    requires formula { IsFormula recorder.old.theory term.now }
+    ensures continues { Continues recorder.old recorder.new result }
+    ensures names { IfOk result (λ made. made.theorem.conclusion ≡ term.now) }
+    ensures derives { (h : List Nameless) → Shows premise.now.theorem h (image term.now)
+        → DerivesIf (nameless_within_limits (nameless_equation bool_type (image term.now) (image term.now))) result h (image term.now) }
+{
+    if is_exact(conclusion_of(recorder, premise), term) {
+        return kept(recorder, alloc, premise);
+    }
+    renamed(recorder, alloc, term, premise)
+}
+
+/// The theorem with this conclusion, as `named_known`, where a proof shows that its own differs in the names of bound
+/// variables alone: the two are not compared for it.
+#[tactic(auto, using(crate::proofs::Exact::exactness))]
+pub fn named_same(
+    recorder: &mut Recorder,
+    alloc: Global,
+    term: &Term,
+    premise: &Rec,
+) -> Result<Rec, Fault>
+    requires premise { IsHeld recorder.old premise.now }
+    requires formula { IsFormula recorder.old.theory term.now }
+    requires same { image premise.now.theorem.conclusion ≡ image term.now }
+    ensures continues { Continues recorder.old recorder.new result }
+    ensures names { IfOk result (λ made. made.theorem.conclusion ≡ term.now) }
+    ensures derives { (h : List Nameless) → Shows premise.now.theorem h (image term.now)
+        → DerivesIf (nameless_within_limits (nameless_equation bool_type (image term.now) (image term.now))) result h (image term.now) }
+{
+    if !term.has_binders() {
+        return kept(recorder, alloc, premise);
+    }
+    renamed_same(recorder, alloc, term, premise)
+}
+
+// Whether nothing is bound in the second term, and the first is the same.
+#[tactic(auto, using(crate::proofs::Exact::exactness))]
+fn is_exact(conclusion: &Term, term: &Term) -> bool
+    ensures { IsTrue result → conclusion.now ≡ term.now }
+{
+    !term.has_binders() && aconv(conclusion, term)
+}
+
+// The same theorem.
+fn kept(recorder: &mut Recorder, alloc: Global, premise: &Rec) -> Result<Rec, Fault>
+    requires { IsHeld recorder.old premise.now }
+    ensures continues { Continues recorder.old recorder.new result }
+    ensures ok { IfOk result (λ made. made ≡ premise.now) }
+    ensures err { IfErr result (λ fault. fault ≡ Memory) }
+{
+    let _recorder = recorder;
+    premise.copy(alloc)
+}
+
+// The theorem with these names, by REFL and EQ_MP, which compares the terms.
+fn renamed(recorder: &mut Recorder, alloc: Global, term: &Term, premise: &Rec) -> Result<Rec, Fault>
     requires premise { IsMade recorder.old premise.now }
     requires formula { IsFormula recorder.old.theory term.now }
     ensures continues { Continues recorder.old recorder.new result }
@@ -150,9 +209,8 @@ pub fn named_known(
     steps::eq_mp(recorder, alloc, &reflexive, premise)
 }
 
-/// The theorem with this conclusion, as `named_known`, where a proof shows that its own differs in the names of bound
-/// variables alone: the two are not compared for it.
-pub fn named_same(
+// The theorem with these names, by REFL and EQ_MP, where the terms are known to be the same but for their names.
+fn renamed_same(
     recorder: &mut Recorder,
     alloc: Global,
     term: &Term,
@@ -210,7 +268,8 @@ pub fn cut_known(
 }
 
 /// ADD_ASSUM: from `q`, `q` with the hypothesis `p`, in three steps. Refused where `p` is not of type `bool`, and then
-/// where the theory does not know a type or a constant of it.
+/// where the theory does not know a type or a constant of it. Walks `p`; where a proof shows that it is a formula that the
+/// theory knows, `add_assum_known`.
 #[tactic(auto, using(crate::proofs::InferredEquality::infers_add_assum))]
 pub fn add_assum(
     recorder: &mut Recorder,
@@ -225,6 +284,25 @@ pub fn add_assum(
 {
     let _type = p.ty();
     let assumed = steps::assume(recorder, alloc, p)?;
+    cut(recorder, alloc, &assumed, premise)
+}
+
+/// ADD_ASSUM of a formula that the theory knows, which is not walked for it, in three steps.
+#[tactic(auto, using(crate::proofs::InferredEquality::infers_add_assum))]
+pub fn add_assum_known(
+    recorder: &mut Recorder,
+    alloc: Global,
+    p: &Term,
+    premise: &Rec,
+) -> Result<Rec, Fault>
+    requires premise { IsMade recorder.old premise.now }
+    requires formula { IsFormula recorder.old.theory p.now }
+    ensures continues { Continues recorder.old recorder.new result }
+    ensures outcome { AnswersStated (theorem_in result) (image p.now ∷ terms_of_theorem premise.now.theorem) (add_assum_outcome recorder.old.theory p.now premise.now.theorem) }
+    ensures inferred { Infers recorder.old.theory (rule_add_assum p.now) (premise.now.theorem ∷ []) (theorem_in result) }
+{
+    let _type = p.ty();
+    let assumed = steps::assume_known(recorder, alloc, p)?;
     cut(recorder, alloc, &assumed, premise)
 }
 

@@ -19,8 +19,8 @@ use hol_terms::Term;
 use hol_types::Ty;
 use std::alloc::Global;
 
-/// The instance of a lemma with these types for type variables, and then these terms for variables, in two
-/// steps. Walks the terms; where a proof shows that the theory knows them, `instance_known`.
+/// The instance of a lemma with these types for type variables, and then these terms for variables, in at
+/// most two steps. Walks the terms; where a proof shows that the theory knows them, `instance_known`.
 pub fn instance(
     recorder: &mut Recorder,
     alloc: Global,
@@ -35,12 +35,15 @@ pub fn instance(
         → DerivesIf (list_all nameless_within_limits (map (instantiate_all types.now) (c ∷ h)
         ++ map (instance_of types.now terms.now) (c ∷ h))) result (map (instance_of types.now terms.now) h) (instance_of types.now terms.now c) }
 {
+    if types.is_empty() {
+        return steps::inst(recorder, alloc, terms, lemma);
+    }
     let typed = steps::inst_type(recorder, alloc, types, lemma)?;
     steps::inst(recorder, alloc, terms, &typed)
 }
 
 /// The instance of a lemma with these types for type variables, and then these terms, which the theory knows and which
-/// are not walked for it, for variables of their types, in two steps.
+/// are not walked for it, for variables of their types, in at most two steps.
 pub fn instance_known(
     recorder: &mut Recorder,
     alloc: Global,
@@ -56,12 +59,15 @@ pub fn instance_known(
         → DerivesIf (list_all nameless_within_limits (map (instantiate_all types.now) (c ∷ h)
         ++ map (instance_of types.now terms.now) (c ∷ h))) result (map (instance_of types.now terms.now) h) (instance_of types.now terms.now c) }
 {
+    if types.is_empty() {
+        return steps::inst_known(recorder, alloc, terms, lemma);
+    }
     let typed = steps::inst_type(recorder, alloc, types, lemma)?;
     steps::inst_known(recorder, alloc, terms, &typed)
 }
 
-/// From the lemma's hypothesis at an instance, its conclusion there, in four steps. A rule of two premises takes a
-/// lemma whose conclusion is an equation, `p |- q = r`, and uses it on the second premise by EQ_MP: to take away two
+/// From the lemma's hypothesis at an instance, its conclusion there, in at most four steps. A rule of two premises
+/// takes a lemma whose conclusion is an equation, `p |- q = r`, and uses it on the second premise by EQ_MP: to take away two
 /// hypotheses one after another would take the second from the hypotheses of the first premise too.
 /// Walks the terms; where a proof shows that the theory knows them, `by_lemma_known`.
 pub fn by_lemma(

@@ -1,6 +1,7 @@
 // The lines of a log, as they are written.
 ghost use Rattle.std.specs.Prelude.{◌≡◌, ◌+◌, length, List, [], ◌∷◌, ◌++◌, nat_eq, map, Some, slice_get, IfOk, IfErr, IfSome, OnOk, IsTrue, IsFalse};
 ghost use Rattle.std.specs.List.{list_any};
+ghost use Rattle.hol_model.specs.Terms.HolType.{bool_type};
 ghost use Rattle.hol_model.specs.Terms.NamedTerm.{NamedTerm};
 ghost use Rattle.hol_model.specs.Logs.LogLine.{LogLine};
 ghost use Rattle.hol_model.specs.Logs.LogLine.LogLine.{header_line, theorem_line, end_line};
@@ -207,7 +208,14 @@ impl<'a> Writer<'a> {
         }
     }
 
-    // Whether a type is written under a number.
+    // Whether `bool` is written under a number.
+    fn is_bool_at(&self, number: u32) -> bool
+        ensures { IsTrue result → IsTypeWritten (written self.now) (written self.now) bool_type number }
+    {
+        matches!(self.type_line(number), Some(TypeLine::Bool))
+    }
+
+    // Whether a type is written under a number. Nothing is called for the type `bool` of an argument.
     fn is_type_at(&self, number: u32, ty: &Ty) -> bool
         ensures { IsTrue result → IsTypeWritten (written self.now) (written self.now) ty.now number }
     {
@@ -218,6 +226,9 @@ impl<'a> Writer<'a> {
             (TypeLine::Variable(written), TypeParts::Variable(name)) => written == name,
             (TypeLine::Bool, TypeParts::Bool) => true,
             (TypeLine::Function(first, second), TypeParts::Function(domain, codomain)) => {
+                if domain.is_bool() {
+                    return self.is_bool_at(first) && self.is_type_at(second, codomain);
+                }
                 self.is_type_at(first, domain) && self.is_type_at(second, codomain)
             }
             (TypeLine::Declared(written), TypeParts::Declared(name)) => written == name,

@@ -130,7 +130,7 @@ fn exists_in_room(
     named(recorder, alloc, formula, &answer)
 }
 
-/// EXISTS: for `?x. p` and a witness `w`, from `p[w/x]`, `?x. p`, by the lemma `P x |- (?) P`, in seventeen steps. Refused
+/// EXISTS: for `?x. p` and a witness `w`, from `p[w/x]`, `?x. p`, by the lemma `P x |- (?) P`, in fifteen steps. Refused
 /// where the formula is no existential formula, then where the witness is of another type than the variable, then where
 /// the theory does not know a type or a constant of the formula, then of the witness, and then where the conclusion is
 /// not `p[w/x]`.

@@ -116,7 +116,7 @@ pub(crate) fn gen_in_room(
     over_all(recorder, alloc, logic, binder, &function, premise)
 }
 
-/// GEN: from `p`, `!x. p`, by the lemmas `p |- p <=> T` and `P = (\x. T) |- (!) P`, in eleven steps. Refused where the
+/// GEN: from `p`, `!x. p`, by the lemmas `p |- p <=> T` and `P = (\x. T) |- (!) P`, in ten steps. Refused where the
 /// term is no variable, then where the theory does not know a type of its type, and then where it is free in a
 /// hypothesis.
 #[tactic(auto, using(crate::proofs::InferredQuantifiers::infers_gen))]

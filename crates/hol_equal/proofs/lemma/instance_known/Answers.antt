@@ -1,4 +1,4 @@
-use Rattle.std.proofs.Common.{◌≡◌, ◌∷◌, ◌++◌, map, None, subst, sym}
+use Rattle.std.proofs.Common.{◌≡◌, ◌∷◌, ◌++◌, map, None, subst, sym, ◌∙◌}
 use Rattle.std.specs.List.{list_all}
 use Rattle.hol_model.specs.Logic.Theory.{Theory}
 use Rattle.hol_model.specs.Terms.Measures.{nameless_within_limits}
@@ -8,7 +8,7 @@ use Rattle.hol_equal.specs.Sequents.{instance_of}
 use Rattle.hol_equal.proofs.StepLemmas.{passed_on}
 use Rattle.hol_equal.proofs.Sizes.{past-room}
 use Rattle.hol_equal.proofs.CutLemmas.{derives-where}
-use Rattle.hol_equal.proofs.LemmaLemmas.{front_passes, later_passes, derives-map}
+use Rattle.hol_equal.proofs.LemmaLemmas.{front_passes, later_passes, derives-map, none-listed, untyped-derives}
 use Rattle.hol_equal.proofs.lemma.instance_known.Goals as goal
 
 pub returns-in_err-typed-clause-derives : goal.returns-in_err-typed-clause-derives
@@ -27,10 +27,14 @@ returns-clause-derives c types_pass terms_pass h d shown =
     let first = map typing (d ∷ h) in
     let inner = list_all nameless_within_limits (map putting (map typing (d ∷ h))) in
     let terms_there = subst (λ (theory : Theory). replacements_refusal theory c.args.terms.now ≡ None) (sym c.in_ok-typed.ensures.continues.theory) terms_pass in
-    derives-where inner (list_all nameless_within_limits (first ++ map both (d ∷ h))) c.inst_known.result (map both h) (both d)
+    derives-where inner (list_all nameless_within_limits (first ++ map both (d ∷ h))) c.inst_known-2.result (map both h) (both d)
     (later_passes nameless_within_limits typing putting first (d ∷ h))
-    (derives-map inner c.inst_known.result typing putting h (both d) (c.inst_known.ensures.derives terms_there (map typing h) (typing d) (c.in_ok-typed.ensures.derives types_pass h d shown)))
+    (derives-map inner c.inst_known-2.result typing putting h (both d) (c.inst_known-2.ensures.derives terms_there (map typing h) (typing d) (c.in_ok-typed.ensures.derives types_pass h d shown)))
 
-pub inst_known-requires-clause-known : goal.inst_known-requires-clause-known
-inst_known-requires-clause-known c =
+pub inst_known-requires-2-clause-known : goal.inst_known-requires-2-clause-known
+inst_known-requires-2-clause-known c =
     subst (λ (theory : Theory). replacements_refusal theory c.args.terms.now ≡ None) (sym c.in_ok-typed.ensures.continues.theory) c.requires.known
+
+pub returns-then-is_empty-clause-derives : goal.returns-then-is_empty-clause-derives
+returns-then-is_empty-clause-derives c types_pass terms_pass h d shown =
+    untyped-derives c.args.types.now c.args.terms.now c.inst_known.result h d (none-listed c.args.types.now (sym c.is_empty.ensures ∙ c.if-is_empty.true)) (c.inst_known.ensures.derives terms_pass h d shown)

@@ -6,7 +6,7 @@ use Rattle.hol_model.specs.Logic.Derivable.{nameless_equation}
 use Rattle.hol_journal.proofs.GrowthLemmas.{journals-grow}
 use Rattle.hol_equal.proofs.CutLemmas.{shown-known, itself-names, given-derives}
 use Rattle.hol_equal.proofs.StepLemmas.{formula-known, passed_on}
-use Rattle.hol_equal.proofs.equality.named_known.Goals as goal
+use Rattle.hol_equal.proofs.equality.renamed.Goals as goal
 
 pub refl_known-requires : goal.refl_known-requires
 refl_known-requires c = (formula-known c.args.recorder.now.theory c.args.term.now c.requires.formula).known
