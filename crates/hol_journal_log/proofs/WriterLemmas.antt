@@ -4,7 +4,7 @@ use Rattle.std.proofs.Common.{eqb, Result, Ok, Err, IfOk, Some, None, length, ar
 use Rattle.std.specs.Prelude.{position, nat_lt, slice_get}
 use Rattle.std.proofs.lemmas.List.Sums.{prefix_len-le-length}
 use Rattle.std.proofs.lemmas.Bool.Decides.{nat_tests}
-use Rattle.hol_model.specs.Terms.HolType.{HolType, function_type}
+use Rattle.hol_model.specs.Terms.HolType.{HolType, function_type, type_eq}
 use Rattle.hol_model.specs.Terms.NamedTerm.{NamedTerm, variable, constant, combination, abstraction}
 use Rattle.hol_model.specs.Logs.LogLine.LogLine.{function_type_line, variable_line, constant_line, combination_line, abstraction_line}
 use Rattle.hol_logtext.specs.declared.line.Line.{Line}
@@ -14,6 +14,7 @@ use Rattle.std.specs.Str.{bytes_eq}
 use Rattle.std.proofs.lemmas.Slice.Eq.{bytes_eq-Decides}
 use Rattle.std.proofs.lemmas.Bool.{eq-eqb, eqb-true}
 use Rattle.hol_model.proofs.Tests.{both, same_answer}
+use Rattle.hol_model.proofs.Terms.HolTypeEq.{same_from_type_eq}
 use Rattle.std.specs.List.{list_any, position_or_len, IsDistinct, AllByRecursion}
 use Rattle.std.proofs.lemmas.Map.Keys.{IsDistinct-head, IsDistinct-tail}
 use Rattle.indexmap.specs.IndexSet.{insert_key}
@@ -291,6 +292,10 @@ abstraction_answers (Err fault) term name ty body old one two new i j is first s
 pub function_at : (ty a b : HolType) (w : Written) (d c n : ℕ) → function_type a b ≡ ty → IsTypeLineWritten w w (function_type_line d c) n
     → IsTypeWritten w w a d → IsTypeWritten w w b c → IsTypeWritten w w ty n
 function_at ty a b w d c n is put first second = subst (λ t. IsTypeWritten w w t n) is (function_written a b w w w w d c n first second put)
+
+-- a type that passes the test for equality
+pub type-is : (ty other : HolType) (w : Written) (n : ℕ) → type_eq ty other ≡ true → IsTypeWritten w w other n → IsTypeWritten w w ty n
+type-is ty other w n same written = subst (λ (t : HolType). IsTypeWritten w w t n) (sym (same_from_type_eq ty other same)) written
 
 pub variable_at : (name other : List ℕ) (ty : HolType) (w : Written) (t n : ℕ) → bytes_eq other name ≡ true
     → IsTermLineWritten w w (variable_line other t) n → IsTypeWritten w w ty t → IsTermWritten w w (variable name ty) n

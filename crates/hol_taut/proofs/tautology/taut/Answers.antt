@@ -36,7 +36,7 @@ returns-in_err-made-clause-outcome c =
     past-answers c.args.recorder.now.theory c.args.term.now c.in_err-made.field-0.0 is.passed is.accepted c.in_err-made.ensures.proves)
 
 pub named_same-requires-clause-premise : goal.named_same-requires-clause-premise
-named_same-requires-clause-premise c = c.in_ok-made.ensures.continues.held.made
+named_same-requires-clause-premise c = c.in_ok-made.ensures.continues.held
 
 pub named_same-requires-clause-formula : goal.named_same-requires-clause-formula
 named_same-requires-clause-formula c = subst (λ (t : Theory). IsFormula t c.args.term.now) (sym c.in_ok-made.ensures.continues.theory) c.in_ok-denied.ensures.ok.passed.formula
