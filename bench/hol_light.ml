@@ -58,6 +58,9 @@ let work name sizes =
   | "peel" ->
       let tm = list_mk_forall (map (numbered "x") (0--(size 0 - 1)),`T`) in
       (fun () -> begin_goal tm; step (funpow (size 0 - 1) (fun tac -> tac THEN GEN_TAC) GEN_TAC))
+  | "peels" ->
+      let tm = list_mk_forall (map (numbered "x") (0--(size 0 - 1)),`T`) in
+      (fun () -> begin_goal tm; times (size 0) (fun _ -> step GEN_TAC))
   | "spec" ->
       let names = map (numbered "x") (1--size 0) in
       let tm = list_mk_forall (names,list_mk_conj names) in

@@ -40,6 +40,7 @@ WORKS = [
     ("the same, with the log", "works.py goals {}", 20000, 10000, "log", None),
     ("{} goals of one TAUT_TAC each", "works.py tautologies {}", 2000, 1000, "run", "tautologies {}"),
     ("{} times DISCH_TAC in one `e`", "works.py disch {}", 800, 400, "run", "disch {}"),
+    ("{} times `e HOST peel`", "works.py peels {}", 400, 200, "run", "peels {}"),
     ("{} times `HOST peel` in one `e`", "works.py peel {}", 400, 200, "run", "peel {}"),
     ("{} conjuncts closed in one `e`", "works.py conjuncts {}", 800, 400, "run", "conjuncts {}"),
     ("the same, with the log", "works.py conjuncts {}", 800, 400, "log", None),

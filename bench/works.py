@@ -82,6 +82,13 @@ def peel(count):
     yield "e " + " THEN ".join(["HOST peel"] * int(count)) + " ;;"
 
 
+def peels(count):
+    """The same goal, and `e HOST peel` so many times, which shows each goal on the way."""
+    yield "goal `" + "".join(f"!x{number}:bool. " for number in range(int(count))) + "T` ;;"
+    for _ in range(int(count)):
+        yield "e HOST peel ;;"
+
+
 def conjuncts(count):
     """A goal of so many conjuncts, closed by one `e`."""
     yield "goal `" + " /\\ ".join(f"((p{number}:bool) ==> (p{number}:bool))" for number in range(int(count))) + "` ;;"
@@ -158,7 +165,7 @@ def itself(connective, places):
     yield f"thm itself = TAUT `{formula} {'==>' if connective == 'imp' else '<=>'} {formula}` ;;"
 
 
-WORKS = [runaway, loops, goals, tautologies, nothing, disch, spec, peel, conjuncts, steps, adder, parity, itself]
+WORKS = [runaway, loops, goals, tautologies, nothing, disch, spec, peel, peels, conjuncts, steps, adder, parity, itself]
 
 if __name__ == "__main__":
     works = {work.__name__: work for work in WORKS}
