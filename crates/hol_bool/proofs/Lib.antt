@@ -12,3 +12,4 @@ pub mod DrawnConnectives
 pub mod InferredRules
 pub mod DrawnPrimitives
 pub mod Passing
+pub mod ConjunctionSteps

@@ -1,9 +1,11 @@
 // Rules of conjunction.
-ghost use Rattle.std.specs.Prelude.{◌≡◌, ◌++◌, List, IfOk, [], ◌∷◌};
+ghost use Rattle.std.specs.Prelude.{◌≡◌, ◌++◌, List, IfOk, [], ◌∷◌, false};
+ghost use Rattle.std.specs.List.{list_any};
 ghost use Rattle.hol_model.specs.Terms.HolType.{bool_type};
+ghost use Rattle.hol_model.specs.Terms.NamedTerm.{NamedTerm, equation};
 ghost use Rattle.hol_model.specs.Terms.Nameless.{Nameless};
 ghost use Rattle.hol_model.specs.Logic.Logic as nameless;
-ghost use Rattle.hol_model.specs.Logic.NamedLogic.{conjunction};
+ghost use Rattle.hol_model.specs.Logic.NamedLogic.{true_term, is_true, conjunction};
 ghost use Rattle.hol_model.specs.Logic.Derivable.{nameless_equation};
 ghost use Rattle.hol_model.specs.Derived.DerivedRules.{AnswersStated, terms_of_theorem, conj_outcome, conjunct1_outcome, conjunct2_outcome};
 ghost use Rattle.hol_model.specs.Derived.InferenceRules.{rule_conj, rule_conjunct1, rule_conjunct2};
@@ -13,13 +15,14 @@ ghost use Rattle.hol_equal.specs.Room.{Room, FitsIf};
 ghost use Rattle.hol_equal.specs.Sequents.{Shows, DerivesIf, Continues};
 ghost use Rattle.hol_equal.specs.Inferred.{Infers};
 
-use crate::formula_terms::{connect, equivalence, for_p_q};
+use crate::formula_terms::{connect, equivalence, for_p_q, is_named};
 use crate::prelude_rules::{by_leading_theorem, by_theorem, sides_of};
 use hol_equal::steps::{self, conclusion_of};
 use hol_journal::{Rec, Recorder};
 use hol_model::Fault;
-use hol_prelude::Bool;
-use hol_prelude::numbers::{CONJ, CONJUNCT1, CONJUNCT2};
+use hol_prelude::numbers::{AND_REFL, CONJ, CONJUNCT1, CONJUNCT2, T_AND_T, TRUTH};
+use hol_prelude::{Bool, theorem_of};
+use hol_terms::Term;
 use std::alloc::Global;
 
 /// CONJUNCT1: from `p /\ q`, `p`, in at most five steps. Refused where the conclusion is no conjunction.
@@ -74,9 +77,91 @@ pub fn conjunct2(
     )
 }
 
-// CONJ, with the room that it needs.
+// Whether a theorem has a hypothesis named `T`.
+fn supposes_truth(recorder: &Recorder, premise: &Rec) -> bool
+    requires { IsMade recorder.now premise.now }
+    ensures { result ≡ list_any is_true premise.now.theorem.hypotheses }
+{
+    is_truth_among(recorder.thm(premise).hyps())
+}
+
+// Whether one of the terms is a constant named `T`.
+fn is_truth_among(terms: &[Term]) -> bool
+    ensures { result ≡ list_any is_true terms.now }
+{
+    terms.iter().any(|term| is_named(term, "T"))
+}
+
+// From `p` without the hypothesis `T`, `T <=> p`.
+fn truth_equation(
+    recorder: &mut Recorder,
+    alloc: Global,
+    logic: &Bool,
+    premise: &Rec,
+) -> Result<Rec, Fault>
+    requires logic { HasLogic recorder.old logic.now }
+    requires premise { IsMade recorder.old premise.now }
+    requires absent { list_any is_true premise.now.theorem.hypotheses ≡ false }
+    ensures continues { Continues recorder.old recorder.new result }
+    ensures names { IfOk result (λ made. made.theorem.conclusion ≡ equation true_term premise.now.theorem.conclusion) }
+    ensures derives { (h : List Nameless) (p : Nameless) (room : Room) → Shows premise.now.theorem h p → FitsIf room p
+        → DerivesIf room result h (nameless_equation bool_type nameless.true_term p) }
+{
+    let truth = theorem_of(recorder, logic, TRUTH);
+    steps::deduct_antisym(recorder, alloc, truth, premise)
+}
+
+// From `T <=> p` and `T <=> q`, `T /\ T <=> p /\ q`.
+#[tactic(auto, using(crate::proofs::PreludeSteps::staying))]
+fn conj_congruence(
+    recorder: &mut Recorder,
+    alloc: Global,
+    logic: &Bool,
+    first: &Rec,
+    second: &Rec,
+) -> Result<Rec, Fault>
+    requires logic { HasLogic recorder.old logic.now }
+    requires first { IsMade recorder.old first.now }
+    requires second { IsMade recorder.old second.now }
+    ensures continues { Continues recorder.old recorder.new result }
+    ensures names { (p q : NamedTerm) → first.now.theorem.conclusion ≡ equation true_term p → second.now.theorem.conclusion ≡ equation true_term q
+        → IfOk result (λ made. made.theorem.conclusion ≡ equation (conjunction true_term true_term) (conjunction p q)) }
+    ensures derives { (h k : List Nameless) (p q : Nameless) (room : Room) → Shows first.now.theorem h (nameless_equation bool_type nameless.true_term p)
+        → Shows second.now.theorem k (nameless_equation bool_type nameless.true_term q) → FitsIf room (nameless.conjunction p q)
+        → DerivesIf room result (h ++ k) (nameless_equation bool_type (nameless.conjunction nameless.true_term nameless.true_term) (nameless.conjunction p q)) }
+{
+    let connective = theorem_of(recorder, logic, AND_REFL);
+    let function = steps::mk_comb(recorder, alloc, connective, first)?;
+    steps::mk_comb(recorder, alloc, &function, second)
+}
+
+// From `T <=> p` and `T <=> q`, `p /\ q`.
+#[tactic(auto, using(crate::proofs::PreludeSteps::staying))]
+fn conj_of_truths(
+    recorder: &mut Recorder,
+    alloc: Global,
+    logic: &Bool,
+    first: &Rec,
+    second: &Rec,
+) -> Result<Rec, Fault>
+    requires logic { HasLogic recorder.old logic.now }
+    requires first { IsMade recorder.old first.now }
+    requires second { IsMade recorder.old second.now }
+    ensures continues { Continues recorder.old recorder.new result }
+    ensures names { (p q : NamedTerm) → first.now.theorem.conclusion ≡ equation true_term p → second.now.theorem.conclusion ≡ equation true_term q
+        → IfOk result (λ made. made.theorem.conclusion ≡ conjunction p q) }
+    ensures derives { (h k : List Nameless) (p q : Nameless) (room : Room) → Shows first.now.theorem h (nameless_equation bool_type nameless.true_term p)
+        → Shows second.now.theorem k (nameless_equation bool_type nameless.true_term q) → FitsIf room (nameless.conjunction p q)
+        → DerivesIf room result (h ++ k) (nameless.conjunction p q) }
+{
+    let congruence = conj_congruence(recorder, alloc, logic, first, second)?;
+    let truths = theorem_of(recorder, logic, T_AND_T);
+    steps::eq_mp(recorder, alloc, &congruence, truths)
+}
+
+// CONJ, by the theorem of the prelude at the two formulas.
 #[tactic(auto, using(hol_equal::proofs::StepLemmas::still_made, hol_equal::proofs::StepLemmas::now_made))]
-pub(crate) fn conj_in_room(
+fn conj_by_theorem(
     recorder: &mut Recorder,
     alloc: Global,
     logic: &Bool,
@@ -100,7 +185,32 @@ pub(crate) fn conj_in_room(
     steps::eq_mp_known(recorder, alloc, &equation, second)
 }
 
-/// CONJ: from `p` and `q`, `p /\ q`, in at most six steps.
+// CONJ, with the room that it needs. No formula is named where `T` is no hypothesis.
+#[tactic(auto, using(crate::proofs::PreludeSteps::staying))]
+pub(crate) fn conj_in_room(
+    recorder: &mut Recorder,
+    alloc: Global,
+    logic: &Bool,
+    first: &Rec,
+    second: &Rec,
+) -> Result<Rec, Fault>
+    requires logic { HasLogic recorder.old logic.now }
+    requires first { IsMade recorder.old first.now }
+    requires second { IsMade recorder.old second.now }
+    ensures continues { Continues recorder.old recorder.new result }
+    ensures names { IfOk result (λ made. made.theorem.conclusion ≡ conjunction first.now.theorem.conclusion second.now.theorem.conclusion) }
+    ensures derives { (h k : List Nameless) (p q : Nameless) (room : Room) → Shows first.now.theorem h p → Shows second.now.theorem k q
+        → FitsIf room (nameless_equation bool_type q (nameless.conjunction p q)) → DerivesIf room result (h ++ k) (nameless.conjunction p q) }
+{
+    if supposes_truth(recorder, first) || supposes_truth(recorder, second) {
+        return conj_by_theorem(recorder, alloc, logic, first, second);
+    }
+    let left = truth_equation(recorder, alloc, logic, first)?;
+    let right = truth_equation(recorder, alloc, logic, second)?;
+    conj_of_truths(recorder, alloc, logic, &left, &right)
+}
+
+/// CONJ: from `p` and `q`, `p /\ q`, in at most six steps, and where `T` is no hypothesis in five that name no formula.
 #[tactic(auto, using(crate::proofs::InferredRules::infers_conj))]
 pub fn conj(
     recorder: &mut Recorder,

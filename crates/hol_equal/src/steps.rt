@@ -173,8 +173,8 @@ pub fn eq_mp_known(
     recorder.eq_mp_known(alloc, first, second)
 }
 
-// MK_COMB.
-pub(crate) fn mk_comb(
+/// MK_COMB, of theorems that show sequents.
+pub fn mk_comb(
     recorder: &mut Recorder,
     alloc: Global,
     first: &Rec,

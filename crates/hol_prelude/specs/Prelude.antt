@@ -1,7 +1,7 @@
 -- The theorems of the prelude.
 use Rattle.std.specs.Prelude.{List, [], ◌∷◌, ◌++◌, codes, drop}
 use Rattle.hol_model.specs.Terms.HolType.{bool_type}
-use Rattle.hol_model.specs.Terms.NamedTerm.{NamedTerm, equation}
+use Rattle.hol_model.specs.Terms.NamedTerm.{NamedTerm, constant, equation}
 use Rattle.hol_model.specs.Logic.Theory.{type_a}
 use Rattle.hol_model.specs.Kernel.Theorem.{Theorem}
 use Rattle.hol_model.specs.Logic.Logic.{logical_definitions, true_name, and_name, implies_name, forall_name, exists_name, or_name, false_name, not_name, unary, binary, quantifier}
@@ -77,5 +77,12 @@ middle_theorems =
     ∷ shown [] excluded_middle
     ∷ []
 
+-- the pieces of CONJ that name no formula
+abbrev pub conjunction_theorems : List Theorem
+conjunction_theorems =
+    shown [] (equation (constant and_name binary) (constant and_name binary))
+    ∷ shown [] (conjunction true_term true_term)
+    ∷ []
+
 abbrev pub prelude_theorems : List Theorem
-prelude_theorems = first_theorems ++ disjunction_theorems ++ case_theorems ++ existence_theorems ++ axiom_theorems ++ middle_theorems
+prelude_theorems = first_theorems ++ disjunction_theorems ++ case_theorems ++ existence_theorems ++ axiom_theorems ++ middle_theorems ++ conjunction_theorems

@@ -1,6 +1,7 @@
 //! The theorems that stand before a script begins, made by a recorder.
 #![tactic(auto)]
 
+mod conjunction;
 mod existence;
 mod falsity;
 mod middle;

@@ -2,7 +2,7 @@
 
 pub use hol_prelude_derivations::numbers::{
     CONJ, CONJUNCT1, CONJUNCT2, CONTR, DISCH, EQT_ELIM, EQT_INTRO, GEN, MP, NOT_ELIM, NOT_INTRO,
-    SPEC,
+    SPEC, TRUTH,
 };
 
 /// `p |- p \/ q`.
@@ -21,3 +21,7 @@ pub const ETA_AX: usize = 32;
 pub const SELECT_AX: usize = 33;
 /// `|- p \/ ~p`.
 pub const EXCLUDED_MIDDLE: usize = 34;
+/// `|- (/\) = (/\)`.
+pub const AND_REFL: usize = 36;
+/// `|- T /\ T`.
+pub const T_AND_T: usize = 37;

@@ -2,12 +2,13 @@
 ghost use Rattle.std.specs.Prelude.{◌≡◌, [], ◌++◌, IfOk};
 ghost use Rattle.hol_journal.specs.Growth.{IsGrown};
 ghost use Rattle.hol_prelude_derivations.specs.Derivations.{AreMade};
-ghost use Rattle.hol_prelude.specs.Prelude.{first_theorems, disjunction_theorems, case_theorems, existence_theorems, axiom_theorems, middle_theorems};
+ghost use Rattle.hol_prelude.specs.Prelude.{first_theorems, disjunction_theorems, case_theorems, existence_theorems, axiom_theorems, middle_theorems, conjunction_theorems};
 ghost use Rattle.hol_prelude.specs.Stages.{MakesTheorems};
 ghost use Rattle.hol_prelude.specs.Laws.{laws, falsity_laws, decider_laws};
 
 use crate::tables::{
-    AXIOMS, CASES, DECIDER_LAWS, DISJUNCTION, EXISTENCE, FALSITY_LAWS, FIRST_THEOREMS, LAWS, MIDDLE,
+    AXIOMS, CASES, CONJUNCTION, DECIDER_LAWS, DISJUNCTION, EXISTENCE, FALSITY_LAWS, FIRST_THEOREMS,
+    LAWS, MIDDLE,
 };
 use hol_journal::{Rec, Recorder};
 use hol_model::Fault;
@@ -116,8 +117,8 @@ fn with_axioms(recorder: &mut Recorder, alloc: Global) -> Result<Vec<Rec>, Fault
     }
 }
 
-/// All theorems, the laws among them.
-pub(crate) fn with_middle(recorder: &mut Recorder, alloc: Global) -> Result<Vec<Rec>, Fault>
+// The theorems, and EXCLUDED_MIDDLE.
+fn with_middle(recorder: &mut Recorder, alloc: Global) -> Result<Vec<Rec>, Fault>
     requires new { recorder.old.theory ≡ [] }
     ensures outcome { MakesTheorems (first_theorems ++ laws ++ falsity_laws ++ decider_laws ++ disjunction_theorems ++ case_theorems
         ++ existence_theorems ++ axiom_theorems ++ middle_theorems) recorder.new.theory result }
@@ -126,6 +127,20 @@ pub(crate) fn with_middle(recorder: &mut Recorder, alloc: Global) -> Result<Vec<
 {
     match with_axioms(recorder, alloc) {
         Ok(earlier) => make_table(recorder, alloc, earlier, &MIDDLE),
+        Err(fault) => Err(fault),
+    }
+}
+
+/// All theorems, the laws among them.
+pub(crate) fn with_conjunction(recorder: &mut Recorder, alloc: Global) -> Result<Vec<Rec>, Fault>
+    requires new { recorder.old.theory ≡ [] }
+    ensures outcome { MakesTheorems (first_theorems ++ laws ++ falsity_laws ++ decider_laws ++ disjunction_theorems ++ case_theorems
+        ++ existence_theorems ++ axiom_theorems ++ middle_theorems ++ conjunction_theorems) recorder.new.theory result }
+    ensures made { IfOk result (λ all. AreMade recorder.new all.items) }
+    ensures grown { IsGrown recorder.old recorder.new }
+{
+    match with_middle(recorder, alloc) {
+        Ok(earlier) => make_table(recorder, alloc, earlier, &CONJUNCTION),
         Err(fault) => Err(fault),
     }
 }

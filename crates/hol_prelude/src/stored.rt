@@ -10,14 +10,14 @@ ghost use Rattle.hol_prelude.specs.declared.tables.TheConstants.{BEHIND_LAWS};
 ghost use Rattle.hol_prelude.specs.Prelude.{prelude_theorems};
 ghost use Rattle.hol_prelude.specs.HasLogic.{HasLogic, LogicStays};
 
-use crate::stages::with_middle;
+use crate::stages::with_conjunction;
 use crate::tables::{BEHIND_LAWS, FIRST_LAW};
 use hol_journal::{Rec, Recorder};
 use hol_model::Fault;
 use std::alloc::Global;
 
 /// The stored theorems T_DEF, AND_DEF, IMP_DEF, FORALL_DEF, EXISTS_DEF, OR_DEF, F_DEF, NOT_DEF and TRUTH, the theorems
-/// from which rules are made, ETA_AX, SELECT_AX and EXCLUDED_MIDDLE.
+/// from which rules are made, ETA_AX, SELECT_AX, EXCLUDED_MIDDLE and `T /\ T`.
 #[derive(Drop)]
 pub struct Bool {
     theorems: Vec<Rec>,
@@ -52,7 +52,7 @@ pub fn prelude(recorder: &mut Recorder, alloc: Global) -> Result<Bool, Fault>
     ensures err { IfErr result (λ fault. fault ≡ Memory) }
     ensures grown { IsGrown recorder.old recorder.new }
 {
-    match with_middle(recorder, alloc) {
+    match with_conjunction(recorder, alloc) {
         Ok(all) => Ok(Bool {
             theorems: without_laws(all),
         }),

@@ -1,4 +1,5 @@
 // The tables of the theorems that stand when a script begins, and of the laws among them.
+use crate::conjunction::{AND_IS_AND, T_AND_T_HOLDS};
 use crate::existence::{CHOOSE, EXISTS_RULE, EXISTS_UNFOLDED};
 use crate::falsity::{P_IMPLIES_P, P_OR_TRUE_EQUATION, SELF_DENIAL};
 use crate::middle::{
@@ -112,4 +113,10 @@ pub(crate) const AXIOMS: [Making<'static>; 3] = [
 pub(crate) const MIDDLE: [Making<'static>; 2] = [
     Making::Derive(&EXCLUDED_MIDDLE),
     Making::Derive(&EXCLUDED_MIDDLE_EACH),
+];
+
+/// REFL of `/\`, and `T /\ T`.
+pub(crate) const CONJUNCTION: [Making<'static>; 2] = [
+    Making::Derive(&AND_IS_AND),
+    Making::Derive(&T_AND_T_HOLDS),
 ];

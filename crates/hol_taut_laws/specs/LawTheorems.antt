@@ -3,7 +3,7 @@ use Rattle.std.specs.Prelude.{ℕ, List, [], ◌∷◌, ◌++◌, take}
 use Rattle.hol_model.specs.Terms.NamedTerm.{equation}
 use Rattle.hol_model.specs.Kernel.Theorem.{Theorem}
 use Rattle.hol_model.specs.Logic.NamedLogic.{true_term, false_term, conjunction, disjunction, implication, negation}
-use Rattle.hol_prelude.specs.Prelude.{p, q, r, shown, first_theorems, disjunction_theorems, case_theorems, existence_theorems, axiom_theorems, middle_theorems}
+use Rattle.hol_prelude.specs.Prelude.{p, q, r, shown, first_theorems, disjunction_theorems, case_theorems, existence_theorems, axiom_theorems, middle_theorems, conjunction_theorems}
 use Rattle.hol_prelude.specs.Laws.{laws}
 use Rattle.hol_taut_laws.specs.declared.law.Law.{Law}
 use Rattle.hol_taut_laws.specs.declared.law.Law.TheVariants.{Truth, Contr, Conj, Mp, Disj1, Disj2, AndFalseLeft, AndFalseRight}
@@ -13,7 +13,7 @@ use Rattle.hol_taut_laws.specs.declared.law.Law.TheVariants.{ImpFalseLeft, ImpTr
 
 -- the laws that the prelude leaves out stand where its derivations cite them
 abbrev pub cited_theorems : List Theorem
-cited_theorems = first_theorems ++ take 4 laws ++ (disjunction_theorems ++ case_theorems ++ existence_theorems ++ axiom_theorems ++ middle_theorems)
+cited_theorems = first_theorems ++ take 4 laws ++ (disjunction_theorems ++ case_theorems ++ existence_theorems ++ axiom_theorems ++ middle_theorems ++ conjunction_theorems)
 
 abbrev pub discharged_laws : List Theorem
 discharged_laws =
@@ -76,14 +76,14 @@ place Conj = 25
 place Mp = 26
 place Disj1 = 31
 place Disj2 = 32
-place AndFalseLeft = 42
-place AndFalseRight = 43
-place ImpFalseLeft = 44
-place ImpTrueRight = 45
-place NotTrue = 46
-place NotFalse = 47
-place IffTrueLeft = 48
-place IffTrueRight = 49
-place IffFalseLeft = 50
-place OrFalseLeft = 51
-place NotFalseElim = 52
+place AndFalseLeft = 44
+place AndFalseRight = 45
+place ImpFalseLeft = 46
+place ImpTrueRight = 47
+place NotTrue = 48
+place NotFalse = 49
+place IffTrueLeft = 50
+place IffTrueRight = 51
+place IffFalseLeft = 52
+place OrFalseLeft = 53
+place NotFalseElim = 54

@@ -66,7 +66,7 @@ const P_IS_F_DENIED: TermSketch = TermSketch::Equation(&P_IS_F, &F);
 
 const ASSUME_P_IS_F_DENIED: Derivation = Derivation::Term(Assume, &P_IS_F_DENIED);
 
-const NOT_P_IS_F: Derivation = Derivation::Earlier(46);
+const NOT_P_IS_F: Derivation = Derivation::Earlier(48);
 
 const F_FROM_NOT_P_AND_P: Derivation = Derivation::Pair(EqMp, &NOT_P_IS_F, &ASSUME_NOT_P);
 

@@ -25,7 +25,7 @@ const RIGHT_CASE_FOLLOWS: Derivation = Derivation::ApThm(&RIGHT_CASE_IMP, &Q);
 
 const RIGHT_CASE_IS: Derivation = Derivation::Pair(Trans, &RIGHT_CASE_FOLLOWS, &FROM_TRUE);
 
-const P_IMP_Q_FROM_FALSE: Derivation = Derivation::Earlier(44);
+const P_IMP_Q_FROM_FALSE: Derivation = Derivation::Earlier(46);
 
 const LEFT_CASE_HOLDS: Derivation = Derivation::Pair(
     DeductAntisym,
@@ -90,7 +90,7 @@ const DISJUNCTION_IS: Derivation = Derivation::Pair(
     &DISJUNCTION_FROM_TRUE,
 );
 
-pub(crate) const DECIDES: Derivation = Derivation::Earlier(41);
+pub(crate) const DECIDES: Derivation = Derivation::Earlier(43);
 
 const Q_DECIDES: TermSketch = TermSketch::Combination(&P_OR_Q_IMP, &Q_CASES);
 

@@ -31,7 +31,7 @@ pub(crate) const NOT_TRUE: Derivation = Derivation::Pair(Trans, &NOT_P_IS, &P_IM
 // p <=> F |- ~p
 const P_IMP_AT_FALSE: Derivation = Derivation::ApTerm(&P_IMP, &ASSUME_P_IS_F);
 
-pub(crate) const P_FOLLOWS_P: Derivation = Derivation::Earlier(40);
+pub(crate) const P_FOLLOWS_P: Derivation = Derivation::Earlier(42);
 
 const P_IMP_F_FROM_FALSE: Derivation = Derivation::Pair(EqMp, &P_IMP_AT_FALSE, &P_FOLLOWS_P);
 

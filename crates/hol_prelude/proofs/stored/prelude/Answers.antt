@@ -10,7 +10,7 @@ returns-in-Ok-clause-ok c =
 
 pub returns-in-Ok-clause-made : goal.returns-in-Ok-clause-made
 returns-in-Ok-clause-made c =
-    subst (AreMade c.with_middle.new.recorder) (sym c.without_laws.ensures) (made-without_laws c.with_middle.new.recorder c.in-Ok.all.items c.in-Ok.ensures.made)
+    subst (AreMade c.with_conjunction.new.recorder) (sym c.without_laws.ensures) (made-without_laws c.with_conjunction.new.recorder c.in-Ok.all.items c.in-Ok.ensures.made)
 
 pub returns-in-Ok-clause-logic : goal.returns-in-Ok-clause-logic
 returns-in-Ok-clause-logic c = record {
