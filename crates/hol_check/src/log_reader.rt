@@ -199,8 +199,6 @@ pub(crate) fn read_log<R: Source>(alloc: Global, reader: &mut R) -> Result<Log, 
 {
     let mut reading = Reading::new();
     let mut log = begin(alloc, reader, &mut reading)?;
-    match read_lines(alloc, reader, &mut reading, &mut log) {
-        Ok(()) => Ok(log),
-        Err(fault) => Err(fault),
-    }
+    read_lines(alloc, reader, &mut reading, &mut log)?;
+    Ok(log)
 }
