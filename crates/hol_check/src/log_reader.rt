@@ -20,10 +20,9 @@ fn header(alloc: Global, text: &[u8]) -> Result<Option<Version>, Fault>
     ensures header { IfOk result (λ version. dest_header (read_text text.now) ≡ option_map version_of version) }
     ensures refused { IfErr result (λ fault. fault ≡ Memory) }
 {
-    match read_line(alloc, text) {
-        Ok(Ok(Line::Header(version))) => Ok(Some(version)),
-        Ok(_) => Ok(None),
-        Err(_) => Err(Fault::Memory),
+    match read_line(alloc, text)? {
+        Ok(Line::Header(version)) => Ok(Some(version)),
+        _ => Ok(None),
     }
 }
 
@@ -32,10 +31,9 @@ fn go_on(alloc: Global, log: &mut Log, text: &[u8]) -> Result<Result<(), Cause>,
     ensures taken { IfOk result (λ answer. IsTakenText log.old (read_text text.now) answer log.new) }
     ensures refused { IfErr result (λ fault. fault ≡ Memory) }
 {
-    match read_line(alloc, text) {
-        Ok(Ok(line)) => take(alloc, log, &line),
-        Ok(Err(cause)) => Ok(Err(cause)),
-        Err(_) => Err(Fault::Memory),
+    match read_line(alloc, text)? {
+        Ok(line) => take(alloc, log, &line),
+        Err(cause) => Ok(Err(cause)),
     }
 }
 
