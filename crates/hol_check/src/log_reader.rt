@@ -93,20 +93,20 @@ fn read_next<R: Source>(
         → IsErrOf result Memory → StaysWithin input (R.remaining reader.new) }
     ensures refusals { IfErr result IsRefusal }
 {
-    match reading.next_line(reader, line) {
-        Ok(true) => match go_on(alloc, log, line.as_slice()) {
-            Ok(Ok(())) => Ok(true),
-            Ok(Err(cause)) => Err(refuse(reader, reading, number, cause)),
-            Err(fault) => Err(fault),
-        },
-        Ok(false) => match end(log, line.as_slice(), number) {
+    let is_line = reading.next_line(reader, line)?;
+    if is_line {
+        match go_on(alloc, log, line.as_slice())? {
+            Ok(()) => Ok(true),
+            Err(cause) => Err(refuse(reader, reading, number, cause)),
+        }
+    } else {
+        match end(log, line.as_slice(), number) {
             Ok(()) => Ok(false),
             Err(cause) => Err(Fault::LogFault {
                 line: number,
                 cause,
             }),
-        },
-        Err(fault) => Err(fault),
+        }
     }
 }
 
@@ -157,8 +157,8 @@ fn begin<R: Source>(alloc: Global, reader: &mut R, reading: &mut Reading) -> Res
 {
     let mut line = Vec::new(alloc);
     let is_line = reading.next_line(reader, &mut line)?;
-    match header(alloc, line.as_slice()) {
-        Ok(Some(version)) => {
+    match header(alloc, line.as_slice())? {
+        Some(version) => {
             if !is_line {
                 return Err(Fault::LogFault {
                     line: 1,
@@ -167,7 +167,7 @@ fn begin<R: Source>(alloc: Global, reader: &mut R, reading: &mut Reading) -> Res
             }
             Log::new(alloc, version)
         }
-        Ok(None) => {
+        None => {
             if !is_line {
                 return Err(Fault::LogFault {
                     line: 1,
@@ -176,7 +176,6 @@ fn begin<R: Source>(alloc: Global, reader: &mut R, reading: &mut Reading) -> Res
             }
             Err(refuse(reader, reading, 1, Cause::Header))
         }
-        Err(fault) => Err(fault),
     }
 }
 
