@@ -12,14 +12,10 @@ use Rattle.hol_check_terms.specs.Terms.{TermTable, term_at}
 use Rattle.hol_check_rules.specs.declared.state.Contents.{Contents}
 use Rattle.hol_check_rules.specs.State.{state_of}
 
--- a parenthesis, where it is wanted
-abbrev pub opening : Bool → List ℕ → List ℕ
-opening true rest = 40 ∷ rest
-opening false rest = rest
-
-abbrev pub closing : Bool → List ℕ → List ℕ
-closing true rest = 41 ∷ rest
-closing false rest = rest
+-- the bytes where they are wanted, and then the rest
+abbrev pub bytes_if : Bool → List ℕ → List ℕ → List ℕ
+bytes_if true bytes rest = bytes ++ rest
+bytes_if false bytes rest = rest
 
 -- on the left of an arrow, or elsewhere
 abbrev pub placed : Bool → TypeTree → TypeTree

@@ -59,8 +59,6 @@ pub fn check_log<R: Source>(alloc: Global, reader: &mut R) -> Result<CheckedLog,
     accepted_claims_hold();
     let log = Rc::new(alloc, read_log(alloc, reader)?)?;
     let entries = entries_of(alloc, log.clone()?)?;
-    match claims_of(alloc, log) {
-        Ok(claims) => Ok(CheckedLog { claims, entries }),
-        Err(fault) => Err(fault),
-    }
+    let claims = claims_of(alloc, log)?;
+    Ok(CheckedLog { claims, entries })
 }

@@ -20,10 +20,9 @@ fn header(alloc: Global, text: &[u8]) -> Result<Option<Version>, Fault>
     ensures header { IfOk result (λ version. dest_header (read_text text.now) ≡ option_map version_of version) }
     ensures refused { IfErr result (λ fault. fault ≡ Memory) }
 {
-    match read_line(alloc, text) {
-        Ok(Ok(Line::Header(version))) => Ok(Some(version)),
-        Ok(_) => Ok(None),
-        Err(_) => Err(Fault::Memory),
+    match read_line(alloc, text)? {
+        Ok(Line::Header(version)) => Ok(Some(version)),
+        _ => Ok(None),
     }
 }
 
@@ -32,10 +31,9 @@ fn go_on(alloc: Global, log: &mut Log, text: &[u8]) -> Result<Result<(), Cause>,
     ensures taken { IfOk result (λ answer. IsTakenText log.old (read_text text.now) answer log.new) }
     ensures refused { IfErr result (λ fault. fault ≡ Memory) }
 {
-    match read_line(alloc, text) {
-        Ok(Ok(line)) => take(alloc, log, &line),
-        Ok(Err(cause)) => Ok(Err(cause)),
-        Err(_) => Err(Fault::Memory),
+    match read_line(alloc, text)? {
+        Ok(line) => take(alloc, log, &line),
+        Err(cause) => Ok(Err(cause)),
     }
 }
 
@@ -95,20 +93,20 @@ fn read_next<R: Source>(
         → IsErrOf result Memory → StaysWithin input (R.remaining reader.new) }
     ensures refusals { IfErr result IsRefusal }
 {
-    match reading.next_line(reader, line) {
-        Ok(true) => match go_on(alloc, log, line.as_slice()) {
-            Ok(Ok(())) => Ok(true),
-            Ok(Err(cause)) => Err(refuse(reader, reading, number, cause)),
-            Err(fault) => Err(fault),
-        },
-        Ok(false) => match end(log, line.as_slice(), number) {
+    let is_line = reading.next_line(reader, line)?;
+    if is_line {
+        match go_on(alloc, log, line.as_slice())? {
+            Ok(()) => Ok(true),
+            Err(cause) => Err(refuse(reader, reading, number, cause)),
+        }
+    } else {
+        match end(log, line.as_slice(), number) {
             Ok(()) => Ok(false),
             Err(cause) => Err(Fault::LogFault {
                 line: number,
                 cause,
             }),
-        },
-        Err(fault) => Err(fault),
+        }
     }
 }
 
@@ -159,8 +157,8 @@ fn begin<R: Source>(alloc: Global, reader: &mut R, reading: &mut Reading) -> Res
 {
     let mut line = Vec::new(alloc);
     let is_line = reading.next_line(reader, &mut line)?;
-    match header(alloc, line.as_slice()) {
-        Ok(Some(version)) => {
+    match header(alloc, line.as_slice())? {
+        Some(version) => {
             if !is_line {
                 return Err(Fault::LogFault {
                     line: 1,
@@ -169,7 +167,7 @@ fn begin<R: Source>(alloc: Global, reader: &mut R, reading: &mut Reading) -> Res
             }
             Log::new(alloc, version)
         }
-        Ok(None) => {
+        None => {
             if !is_line {
                 return Err(Fault::LogFault {
                     line: 1,
@@ -178,7 +176,6 @@ fn begin<R: Source>(alloc: Global, reader: &mut R, reading: &mut Reading) -> Res
             }
             Err(refuse(reader, reading, 1, Cause::Header))
         }
-        Err(fault) => Err(fault),
     }
 }
 
@@ -199,8 +196,6 @@ pub(crate) fn read_log<R: Source>(alloc: Global, reader: &mut R) -> Result<Log, 
 {
     let mut reading = Reading::new();
     let mut log = begin(alloc, reader, &mut reading)?;
-    match read_lines(alloc, reader, &mut reading, &mut log) {
-        Ok(()) => Ok(log),
-        Err(fault) => Err(fault),
-    }
+    read_lines(alloc, reader, &mut reading, &mut log)?;
+    Ok(log)
 }

@@ -84,8 +84,6 @@ pub fn migrate<R: Source, W: Sink>(
     ensures refusals { IfErr result IsMigrationRefusal }
 {
     let (claims, text) = migration(alloc, reader)?;
-    match write_all(writer, text.as_slice()) {
-        Ok(()) => Ok(claims),
-        Err(fault) => Err(fault),
-    }
+    write_all(writer, text.as_slice())?;
+    Ok(claims)
 }

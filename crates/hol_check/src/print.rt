@@ -4,7 +4,7 @@ ghost use Rattle.std.specs.List.{All};
 ghost use Rattle.hol_model.specs.Logs.LogClaims.{nameless_bytes, further_nameless, listed_nameless};
 ghost use Rattle.hol_logtext.specs.Writing.{Appends};
 ghost use Rattle.hol_check_terms.specs.Terms.{name_at, type_at, term_at};
-ghost use Rattle.hol_check.specs.PrintedClaims.{opening, closing, type_text, terms_at};
+ghost use Rattle.hol_check.specs.PrintedClaims.{bytes_if, type_text, terms_at};
 
 use hol_check_terms::terms::{TermShape, Terms};
 use hol_check_terms::types::TypeShape;
@@ -18,21 +18,12 @@ pub(crate) fn print(out: &mut Vec<u8>, bytes: &[u8]) -> Result<(), AllocError>
     out.extend_from_slice(bytes)
 }
 
-fn open(out: &mut Vec<u8>, wanted: bool) -> Result<(), AllocError>
-    ensures { OnOk result (Appends out.old.items out.new.items (opening wanted)) }
+// Puts bytes at the end where they are wanted.
+fn print_if(out: &mut Vec<u8>, wanted: bool, bytes: &[u8]) -> Result<(), AllocError>
+    ensures { OnOk result (Appends out.old.items out.new.items (bytes_if wanted bytes.now)) }
 {
     if wanted {
-        print(out, b"(")
-    } else {
-        print(out, b"")
-    }
-}
-
-fn close(out: &mut Vec<u8>, wanted: bool) -> Result<(), AllocError>
-    ensures { OnOk result (Appends out.old.items out.new.items (closing wanted)) }
-{
-    if wanted {
-        print(out, b")")
+        print(out, bytes)
     } else {
         print(out, b"")
     }
@@ -52,11 +43,11 @@ pub(crate) fn print_type(
         TypeShape::Variable(name) => print(out, table.name_bytes(name)),
         TypeShape::Boolean => print(out, b"bool"),
         TypeShape::Function(domain, codomain) => {
-            open(out, on_left)?;
+            print_if(out, on_left, b"(")?;
             print_type(table, domain, true, out)?;
             print(out, b"->")?;
             print_type(table, codomain, false, out)?;
-            close(out, on_left)
+            print_if(out, on_left, b")")
         }
         TypeShape::Declared(name) => print(out, table.name_bytes(name)),
     }

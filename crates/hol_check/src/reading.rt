@@ -116,10 +116,10 @@ impl Reading {
         if self.has_pending() {
             return Ok(Some(self.hand_out()));
         }
-        match self.refill(reader) {
-            Ok(true) => Ok(Some(self.hand_out())),
-            Ok(false) => Ok(None),
-            Err(fault) => Err(fault),
+        if self.refill(reader)? {
+            Ok(Some(self.hand_out()))
+        } else {
+            Ok(None)
         }
     }
 
@@ -146,20 +146,13 @@ impl Reading {
         ensures refusals { IfErr result (Contains (ReadFault ∷ TooLong ∷ Memory ∷ [])) }
     {
         line.clear();
-        loop {
-            match self.next(reader) {
-                Ok(Some(byte)) => {
-                    if is_line_feed(byte) {
-                        return Ok(true);
-                    }
-                    if line.push(byte).is_err() {
-                        return Err(Fault::Memory);
-                    }
-                }
-                Ok(None) => return Ok(false),
-                Err(fault) => return Err(fault),
+        while let Some(byte) = self.next(reader)? {
+            if is_line_feed(byte) {
+                return Ok(true);
             }
+            line.push(byte)?;
         }
+        Ok(false)
     }
 
     /// Reads on to the end of the text without keeping anything. Refusals: as of `next`.
@@ -174,12 +167,7 @@ impl Reading {
         ensures unfailed { OnOk result (R.has_failed reader.new ≡ false) }
         ensures refusals { IfErr result (Contains (ReadFault ∷ TooLong ∷ [])) }
     {
-        loop {
-            match self.next(reader) {
-                Ok(Some(_byte)) => {}
-                Ok(None) => return Ok(()),
-                Err(fault) => return Err(fault),
-            }
-        }
+        while let Some(_byte) = self.next(reader)? {}
+        Ok(())
     }
 }

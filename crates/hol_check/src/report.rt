@@ -22,17 +22,9 @@ fn write_line<W: Sink>(text: Result<Vec<u8>, Fault>, writer: &mut W) -> Result<(
     ensures told { W.has_failed writer.new ≡ true → IsErrOf result WriteFault }
     ensures refusals { IfErr result (Contains (WriteFault ∷ Memory ∷ [])) }
 {
-    let mut text = match text {
-        Ok(text) => text,
-        Err(fault) => return Err(fault),
-    };
-    if text.push(b'\n').is_err() {
-        return Err(Fault::Memory);
-    }
-    match write_all(writer, text.as_slice()) {
-        Ok(()) => Ok(()),
-        Err(fault) => Err(fault),
-    }
+    let mut text = text?;
+    text.push(b'\n')?;
+    write_all(writer, text.as_slice())
 }
 
 /// Writes a line for each claim. Refusals: WriteFault, where the sink fails; Memory, for the text of a claim; a front of

@@ -100,11 +100,8 @@ pub so-far-done : {Element : Type 0} (IsMade : Contents → Element → Type 0) 
 so-far-done IsMade elements index t0 t1 c0 c1 so_far past = λ k d within. so_far.made k (get_or elements k d) (omega (arith, past, within)) (slice_get-get_or elements k d within)
 
 -- two after one another
-
-pub made_both : (result : Result (Unit {0}) Fault) (t1 t2 : TermTable) (c1 c2 : Contents) (first second : ℕ) → Makes t1 t2 c1 c2 → IsMadeLine c1 first → OnOk result (IsMadeLine c2 second) →
-    OnOk result (IsMadePair c2 (first, second))
-made_both (Ok done) t1 t2 c1 c2 first second makes one two = record { new = line-stays t1 t2 c1 c2 makes first one; old = two }
-made_both (Err fault) t1 t2 c1 c2 first second makes one two = tt
+pub made_both : (t1 t2 : TermTable) (c1 c2 : Contents) (pair : ℕ × ℕ) → Makes t1 t2 c1 c2 → IsMadeLine c1 pair.0 → IsMadeLine c2 pair.1 → IsMadePair c2 pair
+made_both t1 t2 c1 c2 pair makes one two = record { new = line-stays t1 t2 c1 c2 makes pair.0 one; old = two }
 
 pub made_claim : (result : Result (Unit {0}) Fault) (t1 t2 : TermTable) (c1 c2 : Contents) (conclusion : ℕ) (hypotheses : List ℕ) → Makes t1 t2 c1 c2 → All (IsMadeLine c1) hypotheses →
     OnOk result (IsMadeLine c2 conclusion)

@@ -1,5 +1,5 @@
 -- What is known before the first line.
-use Rattle.std.proofs.Common.{◌≡◌, ◌⊎◌, ℕ, zero, suc, ◌<◌, ◌≤◌, List, [], ◌∷◌, Bool, true, false, refl, sym, ◌∙◌, ap, subst, inl, inr, Some, None, Result, Ok, Err, IfOk, IfErr, if◌then◌else◌, arith}
+use Rattle.std.proofs.Common.{◌≡◌, ◌⊎◌, ℕ, zero, suc, ◌<◌, ◌≤◌, List, [], ◌∷◌, Bool, true, false, refl, sym, ◌∙◌, ap, subst, inl, inr, Some, None, if◌then◌else◌, arith}
 use Rattle.std.specs.Prelude.{slice_get, nat_eq}
 use Rattle.std.specs.Str.{bytes_eq}
 use Rattle.std.proofs.lemmas.Bool.{eqb-true}
@@ -23,33 +23,42 @@ use Rattle.hol_check_terms.proofs.TableLemmas.{is_within}
 use Rattle.hol_check_rules.proofs.StateLemmas.{longer-place}
 use Rattle.hol_check_terms.proofs.GrowthLemmas.{type-place, type-there}
 
+-- the type variable `A`, and the type of predicates on it
+pub record ArePredicates (types : List HolType) (a predicate : ℕ) : Type 0 where
+  pub is_variable : slice_get types a ≡ Some type_a
+  pub is_predicate : slice_get types predicate ≡ Some (function_type type_a bool_type)
+
+pub predicates-made : (t1 t2 t3 : List HolType) (a formula predicate : ℕ) → slice_get t1 a ≡ Some type_a → IsLonger t1 t2 → slice_get t2 formula ≡ Some bool_type → IsLonger t2 t3
+    → slice_get t3 predicate ≡ Some (function_type (type_at t2 a) (type_at t2 formula)) → ArePredicates t3 a predicate
+predicates-made t1 t2 t3 a formula predicate is_a first is_formula second made =
+    let a2 = type-place t1 t2 a type_a first is_a in
+    let here = type-there t2 a type_a a2 in
+    let formulas = type-there t2 formula bool_type is_formula in
+    record { is_variable = type-place t2 t3 a type_a second a2; is_predicate = made ∙ (λ i. Some (function_type (here i) (formulas i))) }
+
+pub predicates-kept : (earlier later : List HolType) (a predicate : ℕ) → IsLonger earlier later → ArePredicates earlier a predicate → ArePredicates later a predicate
+predicates-kept earlier later a predicate longer are = record {
+  is_variable = type-place earlier later a type_a longer are.is_variable;
+  is_predicate = type-place earlier later predicate (function_type type_a bool_type) longer are.is_predicate;
+}
+
+pub equality-typed : (types : List HolType) (a predicate : ℕ) → ArePredicates types a predicate → function_type (type_at types a) (type_at types predicate) ≡ equality_type type_a
+equality-typed types a predicate are =
+    let variable = type-there types a type_a are.is_variable in
+    let predicates = type-there types predicate (function_type type_a bool_type) are.is_predicate in
+    λ i. function_type (variable i) (predicates i)
+
+pub choice-typed : (types : List HolType) (a predicate : ℕ) → ArePredicates types a predicate → function_type (type_at types predicate) (type_at types a) ≡ choice_type type_a
+choice-typed types a predicate are =
+    let variable = type-there types a type_a are.is_variable in
+    let predicates = type-there types predicate (function_type type_a bool_type) are.is_predicate in
+    λ i. function_type (predicates i) (variable i)
+
 -- a type within the limit is made, unless memory is used up
-pub small-function : (result : Result ℕ Fault) (types : List HolType) (made wanted : HolType) → made ≡ wanted → type_nodes wanted ≤ TYPE_NODES_LIMIT
-    → IfOk result (λ ty. slice_get types ty ≡ Some made) → IfErr result (λ fault. (fault ≡ Memory) ⊎ ((fault ≡ TooLarge) × (TYPE_NODES_LIMIT < type_nodes made)))
-    → IfOk result (λ ty. slice_get types ty ≡ Some wanted) × IfErr result (λ fault. fault ≡ Memory)
-small-function (Ok ty) types made wanted same small number refused = (number ∙ ap Some same, refused)
-small-function (Err fault) types made wanted same small number refused =
-    (number, elim refused [ inl memory ↦ memory | inr large ↦ let nodes : type_nodes made ≡ type_nodes wanted = ap type_nodes same in absurd (omega (arith, large.1, small, nodes)) ])
-
-pub equality-typed : (t1 t2 t3 : List HolType) (a formula predicate : ℕ) → slice_get t1 a ≡ Some type_a → IsLonger t1 t2 → slice_get t2 formula ≡ Some bool_type → IsLonger t2 t3
-    → slice_get t3 predicate ≡ Some (function_type (type_at t2 a) (type_at t2 formula)) → function_type (type_at t3 a) (type_at t3 predicate) ≡ equality_type type_a
-equality-typed t1 t2 t3 a formula predicate is_a first is_formula second is_predicate =
-    let a2 = type-place t1 t2 a type_a first is_a in
-    let here : type_at t2 a ≡ type_a = type-there t2 a type_a a2 in
-    let there : type_at t3 a ≡ type_a = type-there t3 a type_a (type-place t2 t3 a type_a second a2) in
-    let formulas : type_at t2 formula ≡ bool_type = type-there t2 formula bool_type is_formula in
-    let predicates : type_at t3 predicate ≡ function_type (type_at t2 a) (type_at t2 formula) = type-there t3 predicate _ is_predicate in
-    cc
-
-pub choice-typed : (t1 t2 t3 : List HolType) (a formula predicate : ℕ) → slice_get t1 a ≡ Some type_a → IsLonger t1 t2 → slice_get t2 formula ≡ Some bool_type → IsLonger t2 t3
-    → slice_get t3 predicate ≡ Some (function_type (type_at t2 a) (type_at t2 formula)) → function_type (type_at t3 predicate) (type_at t3 a) ≡ choice_type type_a
-choice-typed t1 t2 t3 a formula predicate is_a first is_formula second is_predicate =
-    let a2 = type-place t1 t2 a type_a first is_a in
-    let here : type_at t2 a ≡ type_a = type-there t2 a type_a a2 in
-    let there : type_at t3 a ≡ type_a = type-there t3 a type_a (type-place t2 t3 a type_a second a2) in
-    let formulas : type_at t2 formula ≡ bool_type = type-there t2 formula bool_type is_formula in
-    let predicates : type_at t3 predicate ≡ function_type (type_at t2 a) (type_at t2 formula) = type-there t3 predicate _ is_predicate in
-    cc
+pub small-function : (fault : Fault) (made wanted : HolType) → made ≡ wanted → type_nodes wanted ≤ TYPE_NODES_LIMIT
+    → (fault ≡ Memory) ⊎ ((fault ≡ TooLarge) × (TYPE_NODES_LIMIT < type_nodes made)) → fault ≡ Memory
+small-function fault made wanted same small refused =
+    elim refused [ inl memory ↦ memory | inr large ↦ let nodes : type_nodes made ≡ type_nodes wanted = ap type_nodes same in absurd (omega (arith, large.1, small, nodes)) ]
 
 -- the two constants in the table
 module _ (table : TermTable) (equality equality_ty choice choice_ty : ℕ) (is_equality : slice_get table.names equality ≡ Some equality_name)
@@ -136,17 +145,16 @@ module _ (table : TermTable) (equality equality_ty choice choice_ty : ℕ) (is_e
       subst (λ l. Knows table l declared []) (sym both) (subst (λ d. Knows table entries d []) (sym no_type) knows-constants)
 
 -- the same, where the tables grow meanwhile
-pub knows-first : (t1 t2 t3 t4 : TermTable) (equality equality_ty choice choice_ty : ℕ) → slice_get t1.names equality ≡ Some equality_name → IsGrown t1 t2 →
-    slice_get t2.types equality_ty ≡ Some (equality_type type_a) → IsGrown t2 t3
-    → slice_get t3.names choice ≡ Some choice_name → IsGrown t3 t4 → slice_get t4.types choice_ty ≡ Some (choice_type type_a)
+pub knows-first : (t1 t2 t3 : TermTable) (equality choice equality_ty choice_ty : ℕ) → slice_get t1.names equality ≡ Some equality_name → IsGrown t1 t2
+    → slice_get t2.names choice ≡ Some choice_name → IsGrown t2 t3
+    → slice_get t3.types equality_ty ≡ Some (equality_type type_a) → slice_get t3.types choice_ty ≡ Some (choice_type type_a)
     → (none first second : List (ℕ × ℕ)) (declared : List ℕ) → none ≡ [] → first ≡ insert_entry nat_eq none equality equality_ty → second ≡ insert_entry nat_eq first choice choice_ty →
-    declared ≡ [] → Knows t4 second declared []
-knows-first t1 t2 t3 t4 equality equality_ty choice choice_ty is_equality one is_equality_ty two is_choice three is_choice_ty =
-    knows-inserted t4 equality equality_ty choice choice_ty
-    (longer-place t3.names t4.names equality equality_name three.names (longer-place t2.names t3.names equality equality_name two.names
-    (longer-place t1.names t2.names equality equality_name one.names is_equality)))
-    (longer-place t3.types t4.types equality_ty (equality_type type_a) three.types (longer-place t2.types t3.types equality_ty (equality_type type_a) two.types is_equality_ty))
-    (longer-place t3.names t4.names choice choice_name three.names is_choice)
+    declared ≡ [] → Knows t3 second declared []
+knows-first t1 t2 t3 equality choice equality_ty choice_ty is_equality one is_choice two is_equality_ty is_choice_ty =
+    knows-inserted t3 equality equality_ty choice choice_ty
+    (longer-place t2.names t3.names equality equality_name two.names (longer-place t1.names t2.names equality equality_name one.names is_equality))
+    is_equality_ty
+    (longer-place t2.names t3.names choice choice_name two.names is_choice)
     is_choice_ty
 
 -- no lines of terms yet

@@ -48,10 +48,8 @@ fn push<T: Drop>(list: &mut Vec<T>, item: T) -> Result<(), Fault>
     ensures refused { IfErr result (λ fault. fault ≡ Memory) }
     ensures kept { OnErr result (list.new.items ≡ list.old.items) }
 {
-    match list.push(item) {
-        Ok(()) => Ok(()),
-        Err(_item) => Err(Fault::Memory),
-    }
+    list.push(item)?;
+    Ok(())
 }
 
 fn add_theorem(contents: &mut Contents, theorem: Theorem) -> Result<(), Fault>
@@ -92,9 +90,7 @@ fn declare_constant(
     ensures refused { IfErr result (λ fault. fault ≡ Memory) }
     ensures kept { OnErr result ((table : TermTable) → IsContents table contents.old → IsContents table contents.new) }
 {
-    if contents.entries.reserve(1).is_err() {
-        return Err(Fault::Memory);
-    }
+    contents.entries.reserve(1)?;
     add_constant(&mut contents.known, name, ty)?;
     put_entry(&mut contents.entries, entry);
     Ok(())
@@ -106,9 +102,7 @@ fn declare_type(contents: &mut Contents, name: usize) -> Result<(), Fault>
     ensures refused { IfErr result (λ fault. fault ≡ Memory) }
     ensures kept { OnErr result (Keeps contents.old (addition.NewType name) contents.new) }
 {
-    if contents.entries.reserve(1).is_err() {
-        return Err(Fault::Memory);
-    }
+    contents.entries.reserve(1)?;
     add_type(&mut contents.known, name)?;
     put_entry(&mut contents.entries, TheoryEntry::DeclaredType(name));
     Ok(())

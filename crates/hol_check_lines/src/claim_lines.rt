@@ -90,13 +90,10 @@ fn terms_named(
 {
     let mut numbers = Vec::new(alloc);
     for line in lines {
-        match term_at(contents, *line) {
-            Some(number) => match numbers.push(number) {
-                Ok(()) => {}
-                Err(_number) => return Err(Fault::Memory),
-            },
-            None => return Ok(None),
-        }
+        let Some(number) = term_at(contents, *line) else {
+            return Ok(None);
+        };
+        numbers.push(number)?;
     }
     Ok(Some(numbers))
 }

@@ -93,27 +93,10 @@ fn make_pairs(
     ensures refused { IfErr result (λ fault. fault ≡ Memory) }
 {
     for pair in pairs {
-        make_pair(alloc, terms, contents, pair.0, pair.1)?;
+        make_line(alloc, terms, contents, pair.0)?;
+        make_line(alloc, terms, contents, pair.1)?;
     }
     Ok(())
-}
-
-// Makes the terms of two lines.
-#[tactic(auto, using(crate::proofs::NamedLemmas::Makes_same, crate::proofs::NamedLemmas::Makes_trans, crate::proofs::NamedLemmas::made_both))]
-fn make_pair(
-    alloc: Global,
-    terms: &mut Terms,
-    contents: &mut Contents,
-    first: u32,
-    second: u32,
-) -> Result<(), Fault>
-    requires { IsContents terms.old contents.old }
-    ensures made { OnOk result (IsMadePair contents.new (first, second)) }
-    ensures makes { Makes terms.old terms.new contents.old contents.new }
-    ensures refused { IfErr result (λ fault. fault ≡ Memory) }
-{
-    make_line(alloc, terms, contents, first)?;
-    make_line(alloc, terms, contents, second)
 }
 
 // Makes the term of a line, where the line is there.

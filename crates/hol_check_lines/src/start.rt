@@ -17,9 +17,8 @@ pub(crate) fn first_known(alloc: Global, terms: &mut Terms) -> Result<Known, Fau
     ensures refused { IfErr result (λ fault. fault ≡ Memory) }
 {
     let equality = terms.name(alloc, b"=")?;
-    let equality_ty = equality_type(alloc, terms)?;
     let choice = terms.name(alloc, b"@")?;
-    let choice_ty = choice_type(alloc, terms)?;
+    let (equality_ty, choice_ty) = first_types(alloc, terms)?;
     let mut constants = IndexMap::new(alloc);
     constants.insert(equality, equality_ty)?;
     constants.insert(choice, choice_ty)?;
@@ -29,26 +28,17 @@ pub(crate) fn first_known(alloc: Global, terms: &mut Terms) -> Result<Known, Fau
     })
 }
 
-// The generic type of `=`.
-fn equality_type(alloc: Global, terms: &mut Terms) -> Result<usize, Fault>
-    ensures number { IfOk result (λ ty. slice_get terms.new.types ty ≡ Some (equality_type type_a)) }
+// The generic types of `=` and `@`.
+fn first_types(alloc: Global, terms: &mut Terms) -> Result<(usize, usize), Fault>
+    ensures equality { IfOk result (λ types. slice_get terms.new.types types.0 ≡ Some (equality_type type_a)) }
+    ensures choice { IfOk result (λ types. slice_get terms.new.types types.1 ≡ Some (choice_type type_a)) }
     ensures refused { IfErr result (λ fault. fault ≡ Memory) }
     ensures grows { IsGrown terms.old terms.new }
 {
     let a = terms.type_variable(alloc, b"A")?;
     let formula = terms.boolean()?;
     let predicate = terms.function_type(a, formula)?;
-    terms.function_type(a, predicate)
-}
-
-// The generic type of `@`.
-fn choice_type(alloc: Global, terms: &mut Terms) -> Result<usize, Fault>
-    ensures number { IfOk result (λ ty. slice_get terms.new.types ty ≡ Some (choice_type type_a)) }
-    ensures refused { IfErr result (λ fault. fault ≡ Memory) }
-    ensures grows { IsGrown terms.old terms.new }
-{
-    let a = terms.type_variable(alloc, b"A")?;
-    let formula = terms.boolean()?;
-    let predicate = terms.function_type(a, formula)?;
-    terms.function_type(predicate, a)
+    let equality = terms.function_type(a, predicate)?;
+    let choice = terms.function_type(predicate, a)?;
+    Ok((equality, choice))
 }

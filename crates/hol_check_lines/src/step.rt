@@ -82,10 +82,9 @@ fn judged(taken: Result<Result<Theorem, Cause>, Fault>) -> Judged
     ensures { (rule : LogRule) (contents : state.Contents) (earlier now : TermTable) (step : Step) → length contents.entries.items ≤ DEFINITIONS_LIMIT → IsGrown earlier now
         → IsStep (state_of earlier contents) rule step → Takes step taken now.terms → Judges (theorem_line rule) contents earlier result now }
 {
-    match taken {
-        Ok(Ok(theorem)) => Ok(Ok(Addition::Proved(theorem))),
-        Ok(Err(cause)) => Ok(Err(cause)),
-        Err(fault) => Err(fault),
+    match taken? {
+        Ok(theorem) => Ok(Ok(Addition::Proved(theorem))),
+        Err(cause) => Ok(Err(cause)),
     }
 }
 
@@ -193,11 +192,10 @@ fn judge_inst(
     let Some(premise) = theorem_at(contents, premise) else {
         return Ok(Err(Cause::Number));
     };
-    match term_pairs(alloc, terms, contents, pairs) {
-        Ok(Some(pairs)) => judged(inst(alloc, terms, premise, &pairs)),
-        Ok(None) => Ok(Err(Cause::Number)),
-        Err(fault) => Err(fault),
-    }
+    let Some(pairs) = term_pairs(alloc, terms, contents, pairs)? else {
+        return Ok(Err(Cause::Number));
+    };
+    judged(inst(alloc, terms, premise, &pairs))
 }
 
 fn judge_inst_type(
@@ -213,11 +211,10 @@ fn judge_inst_type(
     let Some(premise) = theorem_at(contents, premise) else {
         return Ok(Err(Cause::Number));
     };
-    match type_pairs(alloc, terms, contents, pairs) {
-        Ok(Some(pairs)) => judged(inst_type(alloc, terms, premise, &pairs)),
-        Ok(None) => Ok(Err(Cause::Number)),
-        Err(fault) => Err(fault),
-    }
+    let Some(pairs) = type_pairs(alloc, terms, contents, pairs)? else {
+        return Ok(Err(Cause::Number));
+    };
+    judged(inst_type(alloc, terms, premise, &pairs))
 }
 
 fn judge_definition(

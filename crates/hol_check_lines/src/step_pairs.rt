@@ -25,13 +25,10 @@ pub(crate) fn term_pairs(
 {
     let mut pairs = Vec::new(alloc);
     for line in lines {
-        match (term_at(contents, line.0), term_at(contents, line.1)) {
-            (Some(new), Some(old)) => match pairs.push((new, old)) {
-                Ok(()) => {}
-                Err(_pair) => return Err(Fault::Memory),
-            },
-            _ => return Ok(None),
-        }
+        let (Some(new), Some(old)) = (term_at(contents, line.0), term_at(contents, line.1)) else {
+            return Ok(None);
+        };
+        pairs.push((new, old))?;
     }
     Ok(Some(pairs))
 }
@@ -49,13 +46,10 @@ pub(crate) fn type_pairs(
 {
     let mut pairs = Vec::new(alloc);
     for line in lines {
-        match (type_at(contents, line.0), type_at(contents, line.1)) {
-            (Some(new), Some(old)) => match pairs.push((new, old)) {
-                Ok(()) => {}
-                Err(_pair) => return Err(Fault::Memory),
-            },
-            _ => return Ok(None),
-        }
+        let (Some(new), Some(old)) = (type_at(contents, line.0), type_at(contents, line.1)) else {
+            return Ok(None);
+        };
+        pairs.push((new, old))?;
     }
     Ok(Some(pairs))
 }

@@ -8,11 +8,11 @@ use Rattle.hol_check.proofs.LogAnswerLemmas.{fault_is}
 use Rattle.hol_check.proofs.CheckingLemmas.{has_claims}
 use Rattle.hol_check.proofs.checker.check_log.Goals as goal
 
-pub returns-in-Ok-clause-listed : goal.returns-in-Ok-clause-listed
-returns-in-Ok-clause-listed g c = record {
+pub returns-clause-listed : goal.returns-clause-listed
+returns-clause-listed g c = record {
   has_claims =
-      has_claims (g.R.Source.remaining c.args.reader.now) c.in_ok-read_log.field-0 c.in-Ok.claims.items c.accepted_logs_are_sound.ensures c.accepted_claims_hold.ensures c.in_ok-read_log.ensures.accepted
-      (c.in-Ok.ensures.claims ∙ ap (λ (log : LogState). log.claims) c.in_ok-log.ensures.ok);
+      has_claims (g.R.Source.remaining c.args.reader.now) c.in_ok-read_log.field-0 c.in_ok-claims.claims.items c.accepted_logs_are_sound.ensures c.accepted_claims_hold.ensures c.in_ok-read_log.ensures.accepted
+      (c.in_ok-claims.ensures.claims ∙ ap (λ (log : LogState). log.claims) c.in_ok-log.ensures.ok);
   are_entries = c.in_ok-entries.ensures.entries ∙ ap (λ (log : LogState). entries_in log.theory) (c.in_ok-clone.ensures.cases ∙ c.in_ok-log.ensures.ok);
 }
 
@@ -30,5 +30,5 @@ returns-in_err-clone-clause-memory g c = λ wants. read_whole c.in_ok-read_log.e
 pub returns-in_err-entries-clause-memory : goal.returns-in_err-entries-clause-memory
 returns-in_err-entries-clause-memory g c = λ wants. read_whole c.in_ok-read_log.ensures.accepted.read
 
-pub returns-in-Err-clause-memory : goal.returns-in-Err-clause-memory
-returns-in-Err-clause-memory g c = λ wants. read_whole c.in_ok-read_log.ensures.accepted.read
+pub returns-in_err-claims-clause-memory : goal.returns-in_err-claims-clause-memory
+returns-in_err-claims-clause-memory g c = λ wants. read_whole c.in_ok-read_log.ensures.accepted.read
