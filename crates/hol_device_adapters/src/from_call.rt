@@ -46,14 +46,8 @@ impl Source for FromCall {
             ⊎ ((n : _) × (length buf.new < n) × CalledAtMut ReadCall.FnMut self.old.call buf.old (Ok n) self.new.call buf.new)) }
     {
         match (self.call)(buf) {
-            Ok(n) => {
-                if n > buf.len() {
-                    self.failed = true;
-                    return Err(DeviceFail);
-                }
-                Ok(n)
-            }
-            Err(_) => {
+            Ok(n) if n <= buf.len() => Ok(n),
+            _ => {
                 self.failed = true;
                 Err(DeviceFail)
             }

@@ -49,14 +49,8 @@ impl Sink for IntoCall {
             ⊎ ((n : _) × (length piece.now < n) × CalledAt WriteCall.FnMut self.old.call piece.now (Ok n) self.new.call)) }
     {
         match (self.call)(piece) {
-            Ok(n) => {
-                if n > piece.len() || (n == 0 && !piece.is_empty()) {
-                    self.failed = true;
-                    return Err(DeviceFail);
-                }
-                Ok(n)
-            }
-            Err(_) => {
+            Ok(n) if n <= piece.len() && (n > 0 || piece.is_empty()) => Ok(n),
+            _ => {
                 self.failed = true;
                 Err(DeviceFail)
             }

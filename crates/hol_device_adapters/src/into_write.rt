@@ -42,14 +42,8 @@ impl<W: Writer + Drop> Sink for IntoWrite<W> {
             ⊎ ((piece.now ≢ []) × W.write_gives self.old.writer piece.now (Some 0) self.new.writer)) }
     {
         match self.writer.write_some(piece) {
-            Ok(n) => {
-                if n == 0 && !piece.is_empty() {
-                    self.failed = true;
-                    return Err(DeviceFail);
-                }
-                Ok(n)
-            }
-            Err(_) => {
+            Ok(n) if n > 0 || piece.is_empty() => Ok(n),
+            _ => {
                 self.failed = true;
                 Err(DeviceFail)
             }

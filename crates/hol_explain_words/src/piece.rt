@@ -28,26 +28,23 @@ pub fn between(bytes: &[u8], start: usize, end: usize) -> &[u8] {
     }
 }
 
-impl Piece<'_> {
+impl<'a> Piece<'a> {
     /// A command with its words.
-    pub fn new<'a>(alloc: Global, bytes: &'a [u8]) -> Result<Piece<'a>, NoMemory> {
-        let words = words_of(alloc, bytes)?;
+    pub fn new(alloc: Global, bytes: &'a [u8]) -> Result<Piece<'a>, NoMemory> {
         Ok(Piece {
             bytes,
-            words,
+            words: words_of(alloc, bytes)?,
             called: "command",
             is_quote: false,
         })
     }
 
     /// A text that stood between backquotes, with its words.
-    pub fn of_quote<'a>(alloc: Global, bytes: &'a [u8]) -> Result<Piece<'a>, NoMemory> {
-        let words = words_of(alloc, bytes)?;
+    pub fn of_quote(alloc: Global, bytes: &'a [u8]) -> Result<Piece<'a>, NoMemory> {
         Ok(Piece {
-            bytes,
-            words,
             called: "quoted text",
             is_quote: true,
+            ..Piece::new(alloc, bytes)?
         })
     }
 

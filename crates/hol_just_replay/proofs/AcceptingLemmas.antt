@@ -71,7 +71,7 @@ goals-known theory (g ∷ goals) passed = (
   goals-known theory goals (second_of_both (is_known_goal theory g) (are_known_goals theory goals) passed),
 )
 
-known-goals : (theory : Theory) (goals : List Goal) → AreKnownGoals theory goals → are_known_goals theory goals ≡ true
+pub known-goals : (theory : Theory) (goals : List Goal) → AreKnownGoals theory goals → are_known_goals theory goals ≡ true
 known-goals theory [] known = refl
 known-goals theory (g ∷ goals) known = both (is_known_goal theory g) (are_known_goals theory goals) (known-goal theory g known.0) (known-goals theory goals known.1)
 

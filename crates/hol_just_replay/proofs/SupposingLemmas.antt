@@ -23,14 +23,17 @@ use Rattle.hol_model.specs.Kernel.Outcome.{Answers, unless, refused}
 use Rattle.hol_model.specs.Kernel.Rules.{first_unknown, is_formula, assume_outcome}
 use Rattle.hol_model.specs.Logic.NamedLogic.{is_false}
 use Rattle.hol_model.proofs.Tests.{first_of_both, second_of_both, both}
+use Rattle.hol_model.proofs.Logic.Checks.{knows_nameless-Decides}
+use Rattle.hol_model.proofs.Terms.Images.{image-type}
 use Rattle.std.specs.List.{list_all}
-use Rattle.std.proofs.lemmas.List.Folds.{list_all-append}
+use Rattle.std.proofs.lemmas.List.Folds.{list_all-append, list_all_at}
 use Rattle.hol_journal.specs.Journal.{Journal, Recorded, IsMade, theorem_in}
 use Rattle.hol_journal.specs.Growth.{IsGrown}
 use Rattle.hol_journal.proofs.GrowthLemmas.{journals-grow}
 use Rattle.hol_prelude_derivations.specs.Derivations.{AreMade}
 use Rattle.hol_prelude.specs.declared.stored.Bool.{Bool as Stored}
 use Rattle.hol_prelude.specs.HasLogic.{HasLogic}
+use Rattle.hol_equal.specs.Formulas.{IsFormula}
 use Rattle.hol_equal.specs.Sequents.{Continues, Gives}
 use Rattle.hol_equal.specs.Inferred.{IsDrawn, Infers}
 use Rattle.hol_bool.proofs.LogicLemmas.{logical-type}
@@ -47,6 +50,31 @@ use Rattle.hol_just_replay.proofs.Replaying.{theorem-roomy}
 
 pub stopped : (journal : Journal) (fault : Fault) → Continues journal journal (Err fault)
 stopped journal fault = record { grown = same-grown journal; theory = refl; held = tt }
+
+-- ---- formulas that are known
+
+known-formula : (theory : Theory) (term : NamedTerm) → is_known_formula theory (image term) ≡ true → IsFormula theory term
+known-formula theory term passed =
+    let known = (knows_nameless-Decides theory (image term) bool_type).0 passed in
+    record { typed = image-type term bool_type known.typed; known = known }
+
+pub known-target : (theory : Theory) (goal : Goal) → is_known_goal theory goal ≡ true → IsFormula theory goal.target
+known-target theory goal passed =
+    known-formula theory goal.target (first_of_both (is_known_formula theory (image goal.target)) (are_known_formulas theory goal.assumptions) passed)
+
+pub known-assumptions : (theory : Theory) (goal : Goal) → is_known_goal theory goal ≡ true → are_known_formulas theory goal.assumptions ≡ true
+known-assumptions theory goal passed = second_of_both (is_known_formula theory (image goal.target)) (are_known_formulas theory goal.assumptions) passed
+
+pub known-assumption : (theory : Theory) (items : List NamedTerm) (at : ℕ) (item : NamedTerm) → at < length items → item ≡ get_or items at item
+    → are_known_formulas theory items ≡ true → IsFormula theory item
+known-assumption theory items at item within is passed = known-formula theory item (go (is_known item) refl)
+  where
+    is_known : NamedTerm → Bool
+    is_known term = is_known_formula theory (image term)
+
+    go : (test : Bool) → is_known item ≡ test → is_known item ≡ true
+    go true found = found
+    go false found = let fails : are_known_formulas theory items ≡ false = list_all_at is_known items at item within (ap is_known (sym is) ∙ found) in cc
 
 -- `F`, and `F /\ F`
 
@@ -398,6 +426,16 @@ one-more-made journal all made are is = record { each = λ number found there. g
 pub goals-here : (items : List code_goal.Goal) (at : ℕ) (item : code_goal.Goal) → at < length items → item ≡ get_or items at item
     → goals_of (drop at items) ≡ goal_of item ∷ goals_of (drop (at + 1) items)
 goals-here items at item within is = let next : suc at ≡ at + 1 = omega arith in ap goals_of (drop-cons items at item within ∙ (λ i. sym is i ∷ drop (next i) items))
+
+-- the next goal of those that are known
+pub known-next : (old now : Journal) (hypotheses : List Nameless) (whole : List Goal) (items : List code_goal.Goal) (at : ℕ)
+    (item : code_goal.Goal) (made : List Recorded) → at < length items → item ≡ get_or items at item
+    → IsSupposing old now hypotheses whole (goals_of (drop at items)) made → are_known_goals old.theory whole ≡ true → is_known_goal now.theory (goal_of item) ≡ true
+known-next old now hypotheses whole items at item made within is supposing known =
+    let left : are_known_goals old.theory (goal_of item ∷ goals_of (drop (at + 1) items)) ≡ true =
+    subst (λ (left : List Goal). are_known_goals old.theory left ≡ true) (goals-here items at item within is) (sym supposing.known ∙ known) in
+    subst (λ (theory : Theory). is_known_goal theory (goal_of item) ≡ true) (sym supposing.theory)
+    (first_of_both (is_known_goal old.theory (goal_of item)) (are_known_goals old.theory (goals_of (drop (at + 1) items))) left)
 
 goal-roomy : (items : List code_goal.Goal) (at : ℕ) (item : code_goal.Goal) → at < length items → item ≡ get_or items at item → are_roomy (terms_of_goals (goals_of (drop at items))) ≡ true
     → (are_roomy (image (goal_of item).target ∷ map image (goal_of item).assumptions) ≡ true) × (are_roomy (terms_of_goals (goals_of (drop (at + 1) items))) ≡ true)

@@ -1,6 +1,6 @@
 // The test of a step by two replays over its subgoals.
 ghost use Rattle.std.specs.Bool.{Decides};
-ghost use Rattle.std.specs.Prelude.{◌≡◌, Some, Ok, OnOk, IfErr};
+ghost use Rattle.std.specs.Prelude.{◌≡◌, true, Some, Ok, OnOk, IfErr, IsTrue};
 ghost use Rattle.hol_model.specs.Terms.Nameless.{Nameless, image};
 ghost use Rattle.hol_model.specs.Logic.Logic.{false_term};
 ghost use Rattle.hol_model.specs.Goals.Achieving.{is_assumed, are_assumed, achieves};
@@ -15,7 +15,7 @@ ghost use Rattle.hol_theorem_store.specs.Stored.{IsStoreOf, theorems_in};
 ghost use Rattle.hol_theorem_store.specs.Store.{stored_of};
 ghost use Rattle.hol_just_replay.specs.Named.{named_sequents, sequent_of_recorded};
 ghost use Rattle.hol_just_replay.specs.Lines.{IsReplayRefusal};
-ghost use Rattle.hol_just_replay.specs.Accepting.{falsity_from, goal_under, UnderFormula, IsReplayedUnder, AnswersUnder};
+ghost use Rattle.hol_just_replay.specs.Accepting.{are_known_goals, falsity_from, goal_under, UnderFormula, IsReplayedUnder, AnswersUnder};
 
 use crate::achieving::is_among;
 use crate::replays::replayed;
@@ -74,18 +74,20 @@ fn replayed_under(
     store: &Store,
     step: &Step,
     falsity: &Rec,
+    are_known: bool,
 ) -> Result<Rec, Fault>
     requires logic { HasLogic recorder.old logic.now }
     requires store { IsStoreOf recorder.old (stored_of store.now) }
     requires premise { IsMade recorder.old falsity.now }
     requires concludes { image falsity.now.theorem.conclusion ≡ false_term }
+    requires known { IsTrue are_known → are_known_goals recorder.old.theory (step_of step.now).goals ≡ true }
     ensures grown { IsGrown recorder.old recorder.new }
     ensures theory { recorder.new.theory ≡ recorder.old.theory }
     ensures replayed { UnderFormula falsity.now.theorem (IsReplayedUnder recorder.old.theory (named_sequents (stored_of store.now)) (step_of step.now) (theorem_in result)) }
     ensures refusals { IfErr result IsReplayRefusal }
 {
     logic_stays();
-    let subgoals = suppose_all(recorder, alloc, logic, falsity, &step.goals)?;
+    let subgoals = suppose_all(recorder, alloc, logic, falsity, are_known, &step.goals)?;
     replayed(recorder, alloc, logic, store, &step.just, &subgoals)
 }
 
@@ -98,16 +100,18 @@ fn replay_passes(
     goal: &Goal,
     step: &Step,
     falsity: &Rec,
+    are_known: bool,
 ) -> Result<(), Fault>
     requires logic { HasLogic recorder.old logic.now }
     requires store { IsStoreOf recorder.old (stored_of store.now) }
     requires premise { IsMade recorder.old falsity.now }
     requires concludes { image falsity.now.theorem.conclusion ≡ false_term }
+    requires known { IsTrue are_known → are_known_goals recorder.old.theory (step_of step.now).goals ≡ true }
     ensures grown { IsGrown recorder.old recorder.new }
     ensures theory { recorder.new.theory ≡ recorder.old.theory }
     ensures answer { UnderFormula falsity.now.theorem (AnswersUnder recorder.old.theory (named_sequents (stored_of store.now)) (goal_of goal.now) (step_of step.now) result) }
 {
-    let theorem = replayed_under(recorder, alloc, logic, store, step, falsity)?;
+    let theorem = replayed_under(recorder, alloc, logic, store, step, falsity, are_known)?;
     if !achieves_under(recorder, &theorem, falsity, goal) {
         return Err(Fault::InvalidStep);
     }
@@ -132,10 +136,10 @@ fn passes_once(
 {
     logic_stays();
     let falsity = falsity_once(recorder, alloc, logic)?;
-    replay_passes(recorder, alloc, logic, store, goal, step, &falsity)
+    replay_passes(recorder, alloc, logic, store, goal, step, &falsity, false)
 }
 
-// Whether the step passes under `F /\ F`.
+// Whether the step, whose subgoals are of known formulas, passes under `F /\ F`.
 #[tactic(auto, using(crate::proofs::AcceptingLemmas::accepting))]
 fn passes_twice(
     recorder: &mut Recorder,
@@ -147,13 +151,14 @@ fn passes_twice(
 ) -> Result<(), Fault>
     requires logic { HasLogic recorder.old logic.now }
     requires store { IsStoreOf recorder.old (stored_of store.now) }
+    requires known { are_known_goals recorder.old.theory (step_of step.now).goals ≡ true }
     ensures grown { IsGrown recorder.old recorder.new }
     ensures theory { recorder.new.theory ≡ recorder.old.theory }
     ensures answer { AnswersUnder recorder.old.theory (named_sequents (stored_of store.now)) (goal_of goal.now) (step_of step.now) result false_twice }
 {
     logic_stays();
     let falsity = falsity_twice(recorder, alloc, logic)?;
-    replay_passes(recorder, alloc, logic, store, goal, step, &falsity)
+    replay_passes(recorder, alloc, logic, store, goal, step, &falsity, true)
 }
 
 /// The test of a step (HOL Light's `VALID`, tactics.ml, which makes one theorem up for each subgoal): its subgoals are of

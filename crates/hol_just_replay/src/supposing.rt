@@ -1,5 +1,5 @@
 // Subgoals supposed under one more hypothesis.
-ghost use Rattle.std.specs.Prelude.{◌≡◌, [], ◌∷◌, ◌++◌, map, Bool as Truth, true, Some, Ok, Err, IfOk, IfErr, OnOk};
+ghost use Rattle.std.specs.Prelude.{◌≡◌, [], ◌∷◌, ◌++◌, map, Bool as Truth, true, Some, Ok, Err, IfOk, IfErr, IsTrue, OnOk};
 ghost use Rattle.hol_model.specs.declared.fault.Fault.TheVariants.{Memory, TooLarge};
 ghost use Rattle.hol_model.specs.Terms.Nameless.{image};
 ghost use Rattle.hol_model.specs.Logic.NamedLogic.{false_term as named_false};
@@ -8,19 +8,21 @@ ghost use Rattle.hol_model.specs.Goals.Goals.{Sequent};
 ghost use Rattle.hol_model.specs.Derived.Inference.{require};
 ghost use Rattle.hol_model.specs.Goals.ValidSteps.{false_twice};
 ghost use Rattle.hol_model.specs.Goals.Replays.{terms_of_goals};
-ghost use Rattle.hol_model.specs.Derived.DerivedRules.{terms_of_theorem};
+ghost use Rattle.hol_model.specs.Derived.DerivedRules.{terms_of_theorem, AnswersStated, add_assum_outcome, contr_outcome};
+ghost use Rattle.hol_model.specs.Derived.InferenceRules.{rule_add_assum, rule_contr};
 ghost use Rattle.hol_just_replay.specs.Room.{IsNotLarge, are_roomy};
 ghost use Rattle.hol_journal.specs.Journal.{IsMade, theorem_in};
 ghost use Rattle.hol_journal.specs.Growth.{IsGrown};
 ghost use Rattle.hol_prelude_derivations.specs.Derivations.{AreMade};
 ghost use Rattle.hol_prelude.specs.HasLogic.{HasLogic};
 ghost use Rattle.hol_equal.specs.Sequents.{Continues, IsHeld};
-ghost use Rattle.hol_equal.specs.Inferred.{IsDrawn};
+ghost use Rattle.hol_equal.specs.Formulas.{IsFormula};
+ghost use Rattle.hol_equal.specs.Inferred.{IsDrawn, Infers};
 ghost use Rattle.hol_just.specs.Steps.{goal_of, goals_of};
-ghost use Rattle.hol_just_replay.specs.Accepting.{falsity_from, with_assumptions, supposed_from, is_known_goal, are_known_goals, AreSupposed, IsUnsupposed, HasGoalRoom};
+ghost use Rattle.hol_just_replay.specs.Accepting.{falsity_from, with_assumptions, supposed_from, are_known_formulas, is_known_goal, are_known_goals, AreSupposed, IsUnsupposed, HasGoalRoom};
 
-use hol_bool::{conj, conjunct1, contr};
-use hol_equal::{add_assum, assume, conclusion_of};
+use hol_bool::{conj, conjunct1, contr, contr_known};
+use hol_equal::{add_assum, add_assum_known, assume, conclusion_of};
 use hol_journal::{Rec, Recorder};
 use hol_just::Goal;
 use hol_model::Fault;
@@ -100,20 +102,64 @@ pub(crate) fn falsity_twice(
     conjunct1(recorder, alloc, logic, &assumed)
 }
 
+// CONTR, which walks the formula unless it is known.
+fn contr_unless_known(
+    recorder: &mut Recorder,
+    alloc: Global,
+    logic: &Bool,
+    is_known: bool,
+    p: &Term,
+    premise: &Rec,
+) -> Result<Rec, Fault>
+    requires logic { HasLogic recorder.old logic.now }
+    requires premise { IsMade recorder.old premise.now }
+    requires known { IsTrue is_known → IsFormula recorder.old.theory p.now }
+    ensures continues { Continues recorder.old recorder.new result }
+    ensures outcome { AnswersStated (theorem_in result) (image p.now ∷ terms_of_theorem premise.now.theorem) (contr_outcome recorder.old.theory p.now premise.now.theorem) }
+    ensures inferred { Infers recorder.old.theory (rule_contr p.now) (premise.now.theorem ∷ []) (theorem_in result) }
+{
+    if is_known {
+        return contr_known(recorder, alloc, logic, p, premise);
+    }
+    contr(recorder, alloc, logic, p, premise)
+}
+
+// ADD_ASSUM, which walks the formula unless it is known.
+fn add_assum_unless_known(
+    recorder: &mut Recorder,
+    alloc: Global,
+    is_known: bool,
+    p: &Term,
+    premise: &Rec,
+) -> Result<Rec, Fault>
+    requires premise { IsMade recorder.old premise.now }
+    requires known { IsTrue is_known → IsFormula recorder.old.theory p.now }
+    ensures continues { Continues recorder.old recorder.new result }
+    ensures outcome { AnswersStated (theorem_in result) (image p.now ∷ terms_of_theorem premise.now.theorem) (add_assum_outcome recorder.old.theory p.now premise.now.theorem) }
+    ensures inferred { Infers recorder.old.theory (rule_add_assum p.now) (premise.now.theorem ∷ []) (theorem_in result) }
+{
+    if is_known {
+        return add_assum_known(recorder, alloc, p, premise);
+    }
+    add_assum(recorder, alloc, p, premise)
+}
+
 // A theorem under further assumptions.
 fn with_assumptions(
     recorder: &mut Recorder,
     alloc: Global,
+    are_known: bool,
     assumptions: &[Term],
     mut theorem: Rec,
 ) -> Result<Rec, Fault>
-    requires { IsHeld recorder.old theorem }
+    requires held { IsHeld recorder.old theorem }
+    requires known { IsTrue are_known → are_known_formulas recorder.old.theory assumptions.now ≡ true }
     ensures continues { Continues recorder.old recorder.new result }
     ensures drawn { IsDrawn (with_assumptions recorder.old.theory (map image theorem.theorem.hypotheses) (image theorem.theorem.conclusion) assumptions.now) (theorem_in result) }
     ensures fits { are_roomy (terms_of_theorem theorem.theorem) ≡ true → are_roomy (map image assumptions.now) ≡ true → IsNotLarge (theorem_in result) }
 {
     for p in assumptions {
-        theorem = add_assum(recorder, alloc, p, &theorem)?;
+        theorem = add_assum_unless_known(recorder, alloc, are_known, p, &theorem)?;
     }
     Ok(theorem)
 }
@@ -125,17 +171,19 @@ fn supposed_from(
     alloc: Global,
     logic: &Bool,
     falsity: &Rec,
+    is_known: bool,
     goal: &Goal,
 ) -> Result<Rec, Fault>
     requires logic { HasLogic recorder.old logic.now }
     requires premise { IsMade recorder.old falsity.now }
     requires concludes { image falsity.now.theorem.conclusion ≡ false_term }
+    requires known { IsTrue is_known → is_known_goal recorder.old.theory (goal_of goal.now) ≡ true }
     ensures continues { Continues recorder.old recorder.new result }
     ensures drawn { IsDrawn (supposed_from recorder.old.theory (map image falsity.now.theorem.hypotheses) (goal_of goal.now)) (theorem_in result) }
     ensures fits { HasGoalRoom falsity.now.theorem (goal_of goal.now) → IsNotLarge (theorem_in result) }
 {
-    let theorem = contr(recorder, alloc, logic, &goal.concl, falsity)?;
-    with_assumptions(recorder, alloc, &goal.asms, theorem)
+    let theorem = contr_unless_known(recorder, alloc, logic, is_known, &goal.concl, falsity)?;
+    with_assumptions(recorder, alloc, is_known, &goal.asms, theorem)
 }
 
 // A refusal of a goal's sequent, as one of the step.
@@ -157,11 +205,13 @@ fn suppose_one(
     alloc: Global,
     logic: &Bool,
     falsity: &Rec,
+    is_known: bool,
     goal: &Goal,
 ) -> Result<Rec, Fault>
     requires logic { HasLogic recorder.old logic.now }
     requires premise { IsMade recorder.old falsity.now }
     requires concludes { image falsity.now.theorem.conclusion ≡ false_term }
+    requires known { IsTrue is_known → is_known_goal recorder.old.theory (goal_of goal.now) ≡ true }
     ensures grown { IsGrown recorder.old recorder.new }
     ensures theory { recorder.new.theory ≡ recorder.old.theory }
     ensures made { IfOk result (IsMade recorder.new) }
@@ -169,7 +219,7 @@ fn suppose_one(
     ensures err { IfErr result (IsUnsupposed (is_known_goal recorder.old.theory (goal_of goal.now))) }
     ensures fits { HasGoalRoom falsity.now.theorem (goal_of goal.now) → IsNotLarge result }
 {
-    match supposed_from(recorder, alloc, logic, falsity, goal) {
+    match supposed_from(recorder, alloc, logic, falsity, is_known, goal) {
         Ok(made) => Ok(made),
         Err(fault) => Err(refusal(fault)),
     }
@@ -190,11 +240,13 @@ pub(crate) fn suppose_all(
     alloc: Global,
     logic: &Bool,
     falsity: &Rec,
+    are_known: bool,
     goals: &[Goal],
 ) -> Result<Vec<Rec>, Fault>
     requires logic { HasLogic recorder.old logic.now }
     requires premise { IsMade recorder.old falsity.now }
     requires concludes { image falsity.now.theorem.conclusion ≡ false_term }
+    requires known { IsTrue are_known → are_known_goals recorder.old.theory (goals_of goals.now) ≡ true }
     ensures grown { IsGrown recorder.old recorder.new }
     ensures theory { recorder.new.theory ≡ recorder.old.theory }
     ensures made { IfOk result (λ theorems. AreMade recorder.new theorems.items) }
@@ -205,7 +257,7 @@ pub(crate) fn suppose_all(
     logic_stays();
     let mut theorems = Vec::new(alloc);
     for goal in goals {
-        let theorem = suppose_one(recorder, alloc, logic, falsity, goal)?;
+        let theorem = suppose_one(recorder, alloc, logic, falsity, are_known, goal)?;
         pushed(&mut theorems, theorem)?;
     }
     Ok(theorems)

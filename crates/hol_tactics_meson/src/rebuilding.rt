@@ -262,7 +262,9 @@ impl<'a> Rebuilding<'a> {
             }
             Some(Route::Through(Part::Witness(symbol), inner)) => {
                 let witness = self.values.witness(alloc, instance, symbol)?;
-                follow(self.at_witness(alloc, fact, of, witness), inner)
+                let witnesses = &mut self.values.witnesses;
+                let supposed = witnesses.suppose(alloc, witness, of, fact.positive)?;
+                follow(fact.at_witness(alloc, supposed), inner)
             }
             _ => Err(HostFail::Failed),
         }
@@ -272,22 +274,6 @@ impl<'a> Rebuilding<'a> {
         match self.levels.last() {
             Some(level) => Some(level.of),
             None => None,
-        }
-    }
-
-    // A quantified formula at the witness of this number.
-    fn at_witness(
-        &mut self,
-        alloc: Global,
-        fact: Fact,
-        of: Quantified<'_>,
-        witness: usize,
-    ) -> Result<Fact, HostFail> {
-        let witnesses = &mut self.values.witnesses;
-        let place = witnesses.suppose(alloc, witness, of, fact.positive)?;
-        match witnesses.supposed(place) {
-            Some(supposed) => fact.at_witness(alloc, supposed),
-            None => Err(HostFail::Failed),
         }
     }
 }

@@ -124,32 +124,25 @@ impl Witnesses {
         }
     }
 
-    /// The place of what is supposed of a witness for a quantified formula.
+    /// What is supposed of a witness for a quantified formula.
     pub fn suppose(
         &mut self,
         alloc: Global,
         witness: usize,
         of: Quantified<'_>,
         is_existential: bool,
-    ) -> Result<usize, HostFail> {
-        if let Some(place) = self.place_of(witness) {
-            return Ok(place);
+    ) -> Result<&Supposed, HostFail> {
+        if self.supposed_of(witness).is_none() {
+            let variable = self.variable(alloc, witness)?;
+            self.supposed.push(Supposed::new(alloc, witness, variable, of, is_existential)?)?;
         }
-        let variable = self.variable(alloc, witness)?;
-        let place = self.supposed.len();
-        self.supposed.push(Supposed::new(alloc, witness, variable, of, is_existential)?)?;
-        Ok(place)
+        self.supposed_of(witness).ok_or(HostFail::Failed)
     }
 
-    /// What is supposed at a place.
-    pub fn supposed(&self, place: usize) -> Option<&Supposed> {
-        self.supposed.get(place)
-    }
-
-    fn place_of(&self, witness: usize) -> Option<usize> {
+    fn supposed_of(&self, witness: usize) -> Option<&Supposed> {
         self.supposed
             .iter()
-            .position(|supposed| supposed.witness == witness)
+            .find(|supposed| supposed.witness == witness)
     }
 
     /// The justification of a formula without what is supposed of the witnesses: first of one that no other supposition names.

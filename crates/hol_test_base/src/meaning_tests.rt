@@ -47,60 +47,52 @@ fn element(alloc: Global, value: &Value<'_>) -> Result<Element, AllocError> {
     }
 }
 
-fn type_variables<'a>(
-    alloc: Global,
-    given: &'a [Given<'a>],
-) -> Result<Vec<NamedCarrier<'a>>, AllocError> {
-    let mut all = Vec::new(alloc);
-    for at in 0..given.len() {
-        if let Given::Type(name, list) = &given[at] {
-            let elements = numbers(alloc, list)?;
-            all.push(NamedCarrier { name, elements })?;
-        }
-    }
-    Ok(all)
+// What a model gives, in a list for each kind.
+#[derive(Drop)]
+struct Lists<'a> {
+    type_variables: Vec<NamedCarrier<'a>>,
+    declared_types: Vec<NamedCarrier<'a>>,
+    free_variables: Vec<VariableElement<'a>>,
+    declared_constants: Vec<ConstantElement<'a>>,
 }
 
-fn declared_types<'a>(
-    alloc: Global,
-    given: &'a [Given<'a>],
-) -> Result<Vec<NamedCarrier<'a>>, AllocError> {
-    let mut all = Vec::new(alloc);
-    for at in 0..given.len() {
-        if let Given::Declared(name, list) = &given[at] {
-            let elements = numbers(alloc, list)?;
-            all.push(NamedCarrier { name, elements })?;
+impl<'a> Lists<'a> {
+    fn of(alloc: Global, given: &'a [Given<'a>]) -> Result<Lists<'a>, AllocError> {
+        let mut lists = Lists {
+            type_variables: Vec::new(alloc),
+            declared_types: Vec::new(alloc),
+            free_variables: Vec::new(alloc),
+            declared_constants: Vec::new(alloc),
+        };
+        for one in given {
+            lists.add(alloc, one)?;
         }
+        Ok(lists)
     }
-    Ok(all)
-}
 
-fn free_variables<'a>(
-    alloc: Global,
-    given: &'a [Given<'a>],
-) -> Result<Vec<VariableElement<'a>>, AllocError> {
-    let mut all = Vec::new(alloc);
-    for at in 0..given.len() {
-        if let Given::Variable(name, ty, value) = &given[at] {
-            let element = element(alloc, value)?;
-            all.push(VariableElement { name, ty, element })?;
+    fn add(&mut self, alloc: Global, given: &'a Given<'a>) -> Result<(), AllocError> {
+        match given {
+            Given::Type(name, list) => {
+                let elements = numbers(alloc, list)?;
+                self.type_variables.push(NamedCarrier { name, elements })?;
+            }
+            Given::Declared(name, list) => {
+                let elements = numbers(alloc, list)?;
+                self.declared_types.push(NamedCarrier { name, elements })?;
+            }
+            Given::Variable(name, ty, value) => {
+                let element = element(alloc, value)?;
+                self.free_variables
+                    .push(VariableElement { name, ty, element })?;
+            }
+            Given::Constant(name, number) => {
+                let element = Element::number(alloc, *number)?;
+                self.declared_constants
+                    .push(ConstantElement { name, element })?;
+            }
         }
+        Ok(())
     }
-    Ok(all)
-}
-
-fn declared_constants<'a>(
-    alloc: Global,
-    given: &'a [Given<'a>],
-) -> Result<Vec<ConstantElement<'a>>, AllocError> {
-    let mut all = Vec::new(alloc);
-    for at in 0..given.len() {
-        if let Given::Constant(name, number) = &given[at] {
-            let element = Element::number(alloc, *number)?;
-            all.push(ConstantElement { name, element })?;
-        }
-    }
-    Ok(all)
 }
 
 fn is_value(alloc: Global, found: &Element, wanted: &Value<'_>) -> Result<bool, AllocError> {
@@ -157,15 +149,12 @@ fn are_so(
 }
 
 fn row_is_so(alloc: Global, row: &Row<'_>) -> Result<bool, AllocError> {
-    let types = type_variables(alloc, row.1)?;
-    let declared = declared_types(alloc, row.1)?;
-    let variables = free_variables(alloc, row.1)?;
-    let constants = declared_constants(alloc, row.1)?;
+    let given = Lists::of(alloc, row.1)?;
     let choices = Choices {
-        type_variables: &types,
-        declared_types: &declared,
-        free_variables: &variables,
-        declared_constants: &constants,
+        type_variables: &given.type_variables,
+        declared_types: &given.declared_types,
+        free_variables: &given.free_variables,
+        declared_constants: &given.declared_constants,
     };
     are_so(alloc, row.0, &Interpretation::Given(&choices), row.2)
 }
@@ -386,39 +375,27 @@ fn select_holds(rt: HostRuntime) {
 }
 
 // `@` gives the first element where the predicate is true, and of an empty predicate the first of the carrier.
+const A_OF_THREE: Given<'static> = Given::Type("A", &[7, 9, 4]);
+
+const P_0_0_0: Given<'static> = Given::Variable("P", &PREDICATE, Value::Table(&[0, 0, 0]));
+
+const P_0_1_1: Given<'static> = Given::Variable("P", &PREDICATE, Value::Table(&[0, 1, 1]));
+
+const P_0_0_1: Given<'static> = Given::Variable("P", &PREDICATE, Value::Table(&[0, 0, 1]));
+
+const P_1_1_1: Given<'static> = Given::Variable("P", &PREDICATE, Value::Table(&[1, 1, 1]));
+
+const SEVEN_IS_CHOSEN: [Claim<'static>; 1] = [Claim::Means(&CHOSEN, Value::Number(7))];
+
+const NINE_IS_CHOSEN: [Claim<'static>; 1] = [Claim::Means(&CHOSEN, Value::Number(9))];
+
+const FOUR_IS_CHOSEN: [Claim<'static>; 1] = [Claim::Means(&CHOSEN, Value::Number(4))];
+
 const CHOICES: [Row<'static>; 4] = [
-    Row(
-        &[],
-        &[
-            Given::Type("A", &[7, 9, 4]),
-            Given::Variable("P", &PREDICATE, Value::Table(&[0, 0, 0])),
-        ],
-        &[Claim::Means(&CHOSEN, Value::Number(7))],
-    ),
-    Row(
-        &[],
-        &[
-            Given::Type("A", &[7, 9, 4]),
-            Given::Variable("P", &PREDICATE, Value::Table(&[0, 1, 1])),
-        ],
-        &[Claim::Means(&CHOSEN, Value::Number(9))],
-    ),
-    Row(
-        &[],
-        &[
-            Given::Type("A", &[7, 9, 4]),
-            Given::Variable("P", &PREDICATE, Value::Table(&[0, 0, 1])),
-        ],
-        &[Claim::Means(&CHOSEN, Value::Number(4))],
-    ),
-    Row(
-        &[],
-        &[
-            Given::Type("A", &[7, 9, 4]),
-            Given::Variable("P", &PREDICATE, Value::Table(&[1, 1, 1])),
-        ],
-        &[Claim::Means(&CHOSEN, Value::Number(7))],
-    ),
+    Row(&[], &[A_OF_THREE, P_0_0_0], &SEVEN_IS_CHOSEN),
+    Row(&[], &[A_OF_THREE, P_0_1_1], &NINE_IS_CHOSEN),
+    Row(&[], &[A_OF_THREE, P_0_0_1], &FOUR_IS_CHOSEN),
+    Row(&[], &[A_OF_THREE, P_1_1_1], &SEVEN_IS_CHOSEN),
 ];
 
 #[test]
@@ -525,62 +502,50 @@ const P_EQUALS: TermTree<'static> = TermTree::App(&EQUIVALENCE, &LITTLE_P);
 
 const EQUIVALENT: TermTree<'static> = TermTree::App(&P_EQUALS, &Q);
 
+const P_IS_FALSE: Given<'static> = Given::Variable("p", &BOOL, Value::Number(0));
+
+const P_IS_TRUE: Given<'static> = Given::Variable("p", &BOOL, Value::Number(1));
+
+const Q_IS_FALSE: Given<'static> = Given::Variable("q", &BOOL, Value::Number(0));
+
+const Q_IS_TRUE: Given<'static> = Given::Variable("q", &BOOL, Value::Number(1));
+
+const P_FROM_P: Claim<'static> = Claim::Holds(&P_ALONE, &LITTLE_P, true);
+
+const Q_FROM_P: Claim<'static> = Claim::Holds(&P_ALONE, &Q, true);
+
+const NO_Q_FROM_P: Claim<'static> = Claim::Holds(&P_ALONE, &Q, false);
+
+const REFLEXIVITY: Claim<'static> = Claim::Holds(&[], &REFLEXIVE, true);
+
+const P_HOLDS: Claim<'static> = Claim::Holds(&[], &LITTLE_P, true);
+
+const P_FAILS: Claim<'static> = Claim::Holds(&[], &LITTLE_P, false);
+
+const EQUAL: Claim<'static> = Claim::Holds(&[], &EQUIVALENT, true);
+
+const UNEQUAL: Claim<'static> = Claim::Holds(&[], &EQUIVALENT, false);
+
 const SEQUENTS: [Row<'static>; 4] = [
     Row(
         &[],
-        &[
-            Given::Variable("p", &BOOL, Value::Number(0)),
-            Given::Variable("q", &BOOL, Value::Number(0)),
-        ],
-        &[
-            Claim::Holds(&P_ALONE, &LITTLE_P, true),
-            Claim::Holds(&[], &REFLEXIVE, true),
-            Claim::Holds(&[], &LITTLE_P, false),
-            Claim::Holds(&[], &EQUIVALENT, true),
-            Claim::Holds(&P_ALONE, &Q, true),
-        ],
+        &[P_IS_FALSE, Q_IS_FALSE],
+        &[P_FROM_P, REFLEXIVITY, P_FAILS, EQUAL, Q_FROM_P],
     ),
     Row(
         &[],
-        &[
-            Given::Variable("p", &BOOL, Value::Number(0)),
-            Given::Variable("q", &BOOL, Value::Number(1)),
-        ],
-        &[
-            Claim::Holds(&P_ALONE, &LITTLE_P, true),
-            Claim::Holds(&[], &REFLEXIVE, true),
-            Claim::Holds(&[], &LITTLE_P, false),
-            Claim::Holds(&[], &EQUIVALENT, false),
-            Claim::Holds(&P_ALONE, &Q, true),
-        ],
+        &[P_IS_FALSE, Q_IS_TRUE],
+        &[P_FROM_P, REFLEXIVITY, P_FAILS, UNEQUAL, Q_FROM_P],
     ),
     Row(
         &[],
-        &[
-            Given::Variable("p", &BOOL, Value::Number(1)),
-            Given::Variable("q", &BOOL, Value::Number(0)),
-        ],
-        &[
-            Claim::Holds(&P_ALONE, &LITTLE_P, true),
-            Claim::Holds(&[], &REFLEXIVE, true),
-            Claim::Holds(&[], &LITTLE_P, true),
-            Claim::Holds(&[], &EQUIVALENT, false),
-            Claim::Holds(&P_ALONE, &Q, false),
-        ],
+        &[P_IS_TRUE, Q_IS_FALSE],
+        &[P_FROM_P, REFLEXIVITY, P_HOLDS, UNEQUAL, NO_Q_FROM_P],
     ),
     Row(
         &[],
-        &[
-            Given::Variable("p", &BOOL, Value::Number(1)),
-            Given::Variable("q", &BOOL, Value::Number(1)),
-        ],
-        &[
-            Claim::Holds(&P_ALONE, &LITTLE_P, true),
-            Claim::Holds(&[], &REFLEXIVE, true),
-            Claim::Holds(&[], &LITTLE_P, true),
-            Claim::Holds(&[], &EQUIVALENT, true),
-            Claim::Holds(&P_ALONE, &Q, true),
-        ],
+        &[P_IS_TRUE, Q_IS_TRUE],
+        &[P_FROM_P, REFLEXIVITY, P_HOLDS, EQUAL, Q_FROM_P],
     ),
 ];
 
@@ -611,23 +576,23 @@ const ADAM_EQUALS: TermTree<'static> = TermTree::App(&PERSON_EQUALITY, &ADAM);
 
 const IS_ADAM: TermTree<'static> = TermTree::App(&ADAM_EQUALS, &SOMEBODY);
 
+const TWO_PERSONS: Given<'static> = Given::Declared("person", &[4, 6]);
+
+const ADAM_IS_6: Given<'static> = Given::Constant("adam", 6);
+
+const SOMEBODY_IS_4: Given<'static> = Given::Variable("x", &PERSON, Value::Number(4));
+
+const SOMEBODY_IS_6: Given<'static> = Given::Variable("x", &PERSON, Value::Number(6));
+
 const DECLARATIONS: [Row<'static>; 2] = [
     Row(
         &PERSONS,
-        &[
-            Given::Declared("person", &[4, 6]),
-            Given::Constant("adam", 6),
-            Given::Variable("x", &PERSON, Value::Number(4)),
-        ],
+        &[TWO_PERSONS, ADAM_IS_6, SOMEBODY_IS_4],
         &[Claim::Holds(&[], &IS_ADAM, false)],
     ),
     Row(
         &PERSONS,
-        &[
-            Given::Declared("person", &[4, 6]),
-            Given::Constant("adam", 6),
-            Given::Variable("x", &PERSON, Value::Number(6)),
-        ],
+        &[TWO_PERSONS, ADAM_IS_6, SOMEBODY_IS_6],
         &[Claim::Holds(&[], &IS_ADAM, true)],
     ),
 ];

@@ -10,6 +10,6 @@ mod texts;
 
 pub use repetitions::expanded;
 pub use rows::{Row, Rows};
-pub use sinks::{Kept, Narrow};
+pub use sinks::Kept;
 pub use sources::{Drips, Endless};
 pub use texts::push_filled;

@@ -10,21 +10,12 @@ pub(crate) fn twin(alloc: Global, goal: &Goal) -> Result<Step, HostFail> {
     let Some((_, half)) = goal.concl.dest_comb() else {
         return Err(HostFail::Failed);
     };
-    match halved(alloc, half) {
-        Ok(step) => Ok(step),
-        Err(fault) => Err(HostFail::from(fault)),
-    }
-}
-
-// CONJ of the theorem of one subgoal with itself.
-fn halved(alloc: Global, half: &Term) -> Result<Step, Fault> {
-    let just = step(alloc, Rule::Conj, &[sub(alloc, 0)?, sub(alloc, 0)?])?;
-    let mut goals = Vec::new(alloc);
-    goals.push(Goal {
-        asms: Vec::new(alloc),
-        concl: half.copy(alloc)?,
-    })?;
-    Ok(Step { goals, just })
+    to_one(
+        alloc,
+        Vec::new(alloc),
+        half.copy(alloc),
+        twice(alloc, Rule::Conj),
+    )
 }
 
 /// No step of any goal.
@@ -42,12 +33,12 @@ pub(crate) fn stranger(alloc: Global, _goal: &Goal) -> Result<Step, HostFail> {
     proved(alloc, named(alloc, "TRUTH"))
 }
 
-/// A subgoal that is no formula.
+/// A subgoal that is no formula: `\x:bool. p` of p.
 pub(crate) fn shapeless(alloc: Global, goal: &Goal) -> Result<Step, HostFail> {
-    match to_a_predicate(alloc, &goal.concl) {
-        Ok(step) => Ok(step),
-        Err(fault) => Err(HostFail::from(fault)),
-    }
+    let formula = &goal.concl;
+    let variable = Term::mk_var(alloc, "x", formula.ty())?;
+    let predicate = Term::mk_abs(alloc, &variable, formula);
+    to_one(alloc, Vec::new(alloc), predicate, sub(alloc, 0))
 }
 
 /// No subgoals, by the subgoal of number 0.
@@ -67,18 +58,16 @@ pub(crate) fn deep(alloc: Global, _goal: &Goal) -> Result<Step, HostFail> {
 
 /// The subgoal of the same conclusion with the assumption `p` alone, whether the goal has that assumption or not.
 pub(crate) fn presuming(alloc: Global, goal: &Goal) -> Result<Step, HostFail> {
-    match from_p(alloc, &goal.concl) {
-        Ok(step) => Ok(step),
-        Err(fault) => Err(HostFail::from(fault)),
-    }
+    let formula = &goal.concl;
+    let mut asms = Vec::new(alloc);
+    asms.push(Term::mk_var(alloc, "p", formula.ty())?)?;
+    to_one(alloc, asms, formula.copy(alloc), sub(alloc, 0))
 }
 
 /// The step of the goal `T`, with a subgoal that names a constant which no theory of these tests has.
 pub(crate) fn foreign(alloc: Global, goal: &Goal) -> Result<Step, HostFail> {
-    match beside_unknown(alloc, &goal.concl) {
-        Ok(step) => Ok(step),
-        Err(fault) => Err(HostFail::from(fault)),
-    }
+    let unknown = Term::mk_const(alloc, "unknown", goal.concl.ty());
+    to_one(alloc, Vec::new(alloc), unknown, named(alloc, "TRUTH"))
 }
 
 /// No subgoals, by a theorem that is not stored.
@@ -97,53 +86,36 @@ pub(crate) fn vast(alloc: Global, _goal: &Goal) -> Result<Step, HostFail> {
 }
 
 // The step without subgoals by a justification, where it was made.
-fn proved(alloc: Global, made: Result<Just, Fault>) -> Result<Step, HostFail> {
-    match made {
-        Ok(just) => Ok(Step {
-            goals: Vec::new(alloc),
-            just,
-        }),
-        Err(fault) => Err(HostFail::from(fault)),
-    }
+fn proved(alloc: Global, just: Result<Just, Fault>) -> Result<Step, HostFail> {
+    Ok(Step {
+        goals: Vec::new(alloc),
+        just: just?,
+    })
 }
 
-// The subgoal `\x:bool. p` of p.
-fn to_a_predicate(alloc: Global, formula: &Term) -> Result<Step, Fault> {
-    let variable = Term::mk_var(alloc, "x", formula.ty())?;
-    let mut goals = Vec::new(alloc);
-    goals.push(Goal {
-        asms: Vec::new(alloc),
-        concl: Term::mk_abs(alloc, &variable, formula)?,
+// The step to one subgoal by a justification, where this and the subgoal's conclusion were made.
+fn to_one(
+    alloc: Global,
+    asms: Vec<Term>,
+    concl: Result<Term, Fault>,
+    just: Result<Just, Fault>,
+) -> Result<Step, HostFail> {
+    let mut step = proved(alloc, just)?;
+    step.goals.push(Goal {
+        asms,
+        concl: concl?,
     })?;
-    let just = sub(alloc, 0)?;
-    Ok(Step { goals, just })
+    Ok(step)
 }
 
-// The subgoal of a formula under the assumption `p`.
-fn from_p(alloc: Global, formula: &Term) -> Result<Step, Fault> {
-    let mut asms = Vec::new(alloc);
-    asms.push(Term::mk_var(alloc, "p", formula.ty())?)?;
-    let concl = formula.copy(alloc)?;
-    let mut goals = Vec::new(alloc);
-    goals.push(Goal { asms, concl })?;
-    let just = sub(alloc, 0)?;
-    Ok(Step { goals, just })
-}
-
-// The subgoal of an unknown constant of a formula's type, and the justification by `TRUTH`.
-fn beside_unknown(alloc: Global, formula: &Term) -> Result<Step, Fault> {
-    let mut goals = Vec::new(alloc);
-    goals.push(Goal {
-        asms: Vec::new(alloc),
-        concl: Term::mk_const(alloc, "unknown", formula.ty())?,
-    })?;
-    let just = named(alloc, "TRUTH")?;
-    Ok(Step { goals, just })
+// A rule whose two premises are both the theorem of the one subgoal.
+fn twice(alloc: Global, rule: Rule) -> Result<Just, Fault> {
+    step(alloc, rule, &[sub(alloc, 0)?, sub(alloc, 0)?])
 }
 
 // `T`, by PROVE_HYP of a part with itself, 1,999 times.
 fn doubled_to_the_limit(alloc: Global) -> Result<Just, Fault> {
-    let layer = step(alloc, Rule::ProveHyp, &[sub(alloc, 0)?, sub(alloc, 0)?])?;
+    let layer = twice(alloc, Rule::ProveHyp)?;
     let once = repeated(alloc, &layer, named(alloc, "TRUTH")?)?;
     let twice = repeated(alloc, &layer, once)?;
     around(alloc, &layer, twice)
@@ -151,8 +123,7 @@ fn doubled_to_the_limit(alloc: Global) -> Result<Just, Fault> {
 
 // `T`, by the first conjunct of CONJ of a part with itself, 999 times.
 fn doubled(alloc: Global) -> Result<Just, Fault> {
-    let both = step(alloc, Rule::Conj, &[sub(alloc, 0)?, sub(alloc, 0)?])?;
-    let first = step(alloc, Rule::Conjunct1, &[both])?;
+    let first = step(alloc, Rule::Conjunct1, &[twice(alloc, Rule::Conj)?])?;
     repeated(alloc, &first, named(alloc, "TRUTH")?)
 }
 
@@ -199,37 +170,32 @@ pub(crate) fn starved_conv(_alloc: Global, _term: &Term) -> Equated {
 
 /// `T`, by the theorem that the formula equals itself.
 pub(crate) fn twisted(alloc: Global, term: &Term) -> Equated {
-    converted(reflexive(alloc, term))
+    let just = step(alloc, Rule::Refl(term.copy(alloc)?), &[])?;
+    Ok((truth(alloc, term)?, just))
 }
 
 /// `T`, by the assumption that the formula equals it.
 pub(crate) fn guess(alloc: Global, term: &Term) -> Equated {
-    converted(supposed(alloc, term))
+    let truth = truth(alloc, term)?;
+    let equation = mk_eq(alloc, term, &truth)?;
+    let just = step(alloc, Rule::Assume(equation), &[])?;
+    Ok((truth, just))
 }
 
-/// `\y:A. y` of `\x:A. x`, and no answer of a term that binds another name.
+/// `\y:A. y` of `\x:A. x`, by TRANS of the two reflexivities, and no answer of a term that binds another name.
 pub(crate) fn renamed(alloc: Global, term: &Term) -> Equated {
-    match identity_renamed(alloc, term) {
-        Ok(Some(equal)) => Ok(equal),
-        Ok(None) => Err(HostFail::Failed),
-        Err(fault) => Err(HostFail::from(fault)),
-    }
-}
-
-// By TRANS of the two reflexivities.
-fn identity_renamed(alloc: Global, identity: &Term) -> Result<Option<(Term, Just)>, Fault> {
-    let Some((variable, _)) = identity.dest_abs() else {
-        return Ok(None);
+    let Some((variable, _)) = term.dest_abs() else {
+        return Err(HostFail::Failed);
     };
     if !is_named_x(variable) {
-        return Ok(None);
+        return Err(HostFail::Failed);
     }
     let other = Term::mk_var(alloc, "y", variable.ty())?;
-    let other_identity = Term::mk_abs(alloc, &other, &other)?;
-    let left = step(alloc, Rule::Refl(identity.copy(alloc)?), &[])?;
-    let right = step(alloc, Rule::Refl(other_identity.copy(alloc)?), &[])?;
+    let identity = Term::mk_abs(alloc, &other, &other)?;
+    let left = step(alloc, Rule::Refl(term.copy(alloc)?), &[])?;
+    let right = step(alloc, Rule::Refl(identity.copy(alloc)?), &[])?;
     let just = step(alloc, Rule::Trans, &[left, right])?;
-    Ok(Some((other_identity, just)))
+    Ok((identity, just))
 }
 
 fn is_named_x(variable: &Term) -> bool {
@@ -237,25 +203,6 @@ fn is_named_x(variable: &Term) -> bool {
         Some((name, _)) => name == "x",
         None => false,
     }
-}
-
-fn converted(made: Result<(Term, Just), Fault>) -> Equated {
-    match made {
-        Ok(equal) => Ok(equal),
-        Err(fault) => Err(HostFail::from(fault)),
-    }
-}
-
-fn reflexive(alloc: Global, formula: &Term) -> Result<(Term, Just), Fault> {
-    let just = step(alloc, Rule::Refl(formula.copy(alloc)?), &[])?;
-    Ok((truth(alloc, formula)?, just))
-}
-
-fn supposed(alloc: Global, formula: &Term) -> Result<(Term, Just), Fault> {
-    let truth = truth(alloc, formula)?;
-    let equation = mk_eq(alloc, formula, &truth)?;
-    let just = step(alloc, Rule::Assume(equation), &[])?;
-    Ok((truth, just))
 }
 
 // `T`, of the type of a formula.

@@ -6,7 +6,7 @@ use hol_device_adapters::FromRead;
 use hol_host::Table;
 use hol_model::{Fault, Source};
 use hol_script::{Ended, Summary, converse, run};
-use hol_test_sample_devices::{Drips, Kept, Narrow};
+use hol_test_sample_devices::{Drips, Kept};
 use hol_test_sample_host::SAMPLES;
 use std::alloc::Global;
 use std::cell::Cell;
@@ -81,8 +81,8 @@ fn told_of(answer: Result<Ended, Fault>) -> Told {
 pub(crate) fn run_source<R: Source>(alloc: Global, reader: &mut R, setting: Setting) -> Left
     requires unfailed { R.has_failed reader.old ≡ false }
 {
-    let mut writer = Narrow::new(alloc, setting.output_room);
-    let mut log = Narrow::new(alloc, setting.log_room);
+    let mut writer = Kept::with_room(alloc, setting.output_room);
+    let mut log = Kept::with_room(alloc, setting.log_room);
     let wants_log = setting.wants_log;
     let answer = if setting.is_conversation {
         converse(alloc, reader, &mut writer, &mut log, wants_log, &SAMPLES)

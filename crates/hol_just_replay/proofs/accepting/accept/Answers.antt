@@ -3,12 +3,15 @@ use Rattle.hol_theorem_store.specs.Stored.{theorems_in}
 use Rattle.hol_theorem_store.specs.Store.{stored_of}
 use Rattle.hol_just_replay.specs.Named.{named_sequents}
 use Rattle.hol_just_replay.proofs.Replaying.{store-stays}
-use Rattle.hol_just_replay.proofs.AcceptingLemmas.{acceptable, fails-once, fails-twice}
+use Rattle.hol_just_replay.proofs.AcceptingLemmas.{known-goals, acceptable, fails-once, fails-twice}
 use Rattle.hol_equal.proofs.StepLemmas.{passed_on}
 use Rattle.hol_just_replay.proofs.accepting.accept.Goals as goal
 
 pub passes_twice-requires-clause-store : goal.passes_twice-requires-clause-store
 passes_twice-requires-clause-store c = store-stays c.args.recorder.now c.passes_once.new.recorder (stored_of c.args.store.now) c.passes_once.ensures.grown c.requires.store
+
+pub passes_twice-requires-clause-known : goal.passes_twice-requires-clause-known
+passes_twice-requires-clause-known c = rw c.in_ok-passes_once.ensures.theory (known-goals c.args.recorder.now.theory (step_of c.args.step.now).goals c.in_ok-passes_once.ensures.answer.known)
 
 pub returns-in_err-passes_once-clause-answer : goal.returns-in_err-passes_once-clause-answer
 returns-in_err-passes_once-clause-answer c =

@@ -11,6 +11,9 @@ use Rattle.hol_just_replay.proofs.accepting.passes_twice.Goals as goal
 pub replay_passes-requires-clause-store : goal.replay_passes-requires-clause-store
 replay_passes-requires-clause-store c = store-stays c.args.recorder.now c.falsity_twice.new.recorder (stored_of c.args.store.now) c.in_ok-falsity.ensures.continues.grown c.requires.store
 
+pub replay_passes-requires-clause-known : goal.replay_passes-requires-clause-known
+replay_passes-requires-clause-known c is = rw c.in_ok-falsity.ensures.continues.theory c.requires.known
+
 pub returns-in_err-falsity-clause-answer : goal.returns-in_err-falsity-clause-answer
 returns-in_err-falsity-clause-answer c =
     rw (passed_on c.from_residual.result c.in_err-falsity.field-0.0 c.from_residual.ensures.1) (

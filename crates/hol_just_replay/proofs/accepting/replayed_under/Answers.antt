@@ -10,6 +10,9 @@ use Rattle.hol_just_replay.proofs.AcceptingLemmas.{replays-under, supposes-not}
 use Rattle.hol_equal.proofs.StepLemmas.{passed_on}
 use Rattle.hol_just_replay.proofs.accepting.replayed_under.Goals as goal
 
+pub suppose_all-requires-clause-known : goal.suppose_all-requires-clause-known
+suppose_all-requires-clause-known c is = rw c.deref.ensures.value (c.requires.known is)
+
 pub returns-in_err-subgoals-clause-replayed : goal.returns-in_err-subgoals-clause-replayed
 returns-in_err-subgoals-clause-replayed c extra shows =
     rw (passed_on c.from_residual.result c.in_err-subgoals.field-0.0 c.from_residual.ensures.1) (

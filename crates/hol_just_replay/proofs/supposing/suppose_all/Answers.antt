@@ -2,7 +2,7 @@ use Rattle.std.proofs.Common.{map}
 use Rattle.hol_model.specs.Terms.Nameless.{image}
 use Rattle.hol_journal.proofs.GrowthLemmas.{journals-grow}
 use Rattle.hol_just.specs.Steps.{goals_of}
-use Rattle.hol_just_replay.proofs.SupposingLemmas.{supposes-next, supposes-all}
+use Rattle.hol_just_replay.proofs.SupposingLemmas.{known-next, supposes-next, supposes-all}
 use Rattle.std.proofs.Common.{Err}
 use Rattle.hol_just_replay.proofs.SupposingLemmas.{supposes-fits}
 use Rattle.hol_equal.proofs.StepLemmas.{passed_on}
@@ -13,6 +13,11 @@ suppose_one-requires-clause-logic c = c.logic_stays.ensures c.args.recorder.now 
 
 pub suppose_one-requires-clause-premise : goal.suppose_one-requires-clause-premise
 suppose_one-requires-clause-premise c = journals-grow.stays c.args.recorder.now c.loop-goal.recorder c.args.falsity.now c.loop-goal.invariant.grown c.requires.premise
+
+pub suppose_one-requires-clause-known : goal.suppose_one-requires-clause-known
+suppose_one-requires-clause-known c is =
+    known-next c.args.recorder.now c.loop-goal.recorder (map image c.args.falsity.now.theorem.hypotheses) (goals_of c.args.goals.now) c.args.goals.now c.loop-goal.goal-index c.goal-item.result
+    c.loop-goal.theorems.items c.loop-goal-test.true c.goal-item.is c.loop-goal.invariant (c.requires.known is)
 
 pub returns-in_err-theorem-clause-grown : goal.returns-in_err-theorem-clause-grown
 returns-in_err-theorem-clause-grown c =

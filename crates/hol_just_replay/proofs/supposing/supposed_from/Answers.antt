@@ -6,10 +6,18 @@ use Rattle.hol_journal.specs.Journal.{theorem_in}
 use Rattle.hol_equal.specs.Inferred.{IsDrawn}
 use Rattle.hol_just.specs.Steps.{goal_of}
 use Rattle.hol_just_replay.specs.Accepting.{with_assumptions}
-use Rattle.hol_just_replay.proofs.SupposingLemmas.{contr-supposes}
+use Rattle.hol_just_replay.proofs.SupposingLemmas.{known-target, known-assumptions, contr-supposes}
 use Rattle.hol_just_replay.proofs.SupposingLemmas.{contr-fits, supposing-roomy}
 use Rattle.hol_equal.proofs.StepLemmas.{passed_on}
 use Rattle.hol_just_replay.proofs.supposing.supposed_from.Goals as goal
+
+pub contr_unless_known-requires-clause-known : goal.contr_unless_known-requires-clause-known
+contr_unless_known-requires-clause-known c is = known-target c.args.recorder.now.theory (goal_of c.args.goal.now) (c.requires.known is)
+
+pub with_assumptions-requires-clause-known : goal.with_assumptions-requires-clause-known
+with_assumptions-requires-clause-known c is =
+    rw (c.deref.ensures.value, c.in_ok-theorem.ensures.continues.theory)
+    (known-assumptions c.args.recorder.now.theory (goal_of c.args.goal.now) (c.requires.known is))
 
 pub returns-clause-drawn : goal.returns-clause-drawn
 returns-clause-drawn c =
@@ -20,7 +28,7 @@ returns-clause-drawn c =
     (image c.in_ok-theorem.theorem.theorem.conclusion) c.args.goal.now.asms.items) (theorem_in c.with_assumptions.result))
     c.in_ok-theorem.ensures.continues.theory
     (subst (λ (assumptions : List NamedTerm).
-    IsDrawn (with_assumptions c.contr.new.recorder.theory (map image c.in_ok-theorem.theorem.theorem.hypotheses)
+    IsDrawn (with_assumptions c.contr_unless_known.new.recorder.theory (map image c.in_ok-theorem.theorem.theorem.hypotheses)
     (image c.in_ok-theorem.theorem.theorem.conclusion) assumptions) (theorem_in c.with_assumptions.result))
     c.deref.ensures.value c.with_assumptions.ensures.drawn))
 
