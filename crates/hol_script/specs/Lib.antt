@@ -1,4 +1,3 @@
-pub mod Commands
 pub mod Runs
 pub mod RunLogs
 pub mod Managers

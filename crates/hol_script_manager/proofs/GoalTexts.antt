@@ -1,7 +1,6 @@
 -- Texts of goals, one after another.
 use Rattle.std.proofs.Common.{◌≡◌, ℕ, ◌+◌, ◌<◌, List, [], ◌∷◌, ◌++◌, length, take, get_or, sym, ap, ◌∙◌, append-nil}
 use Rattle.std.proofs.lemmas.List.{append_assoc, take_more}
-use Rattle.hol_model.specs.Goals.Goals.{Goal}
 use Rattle.hol_model.specs.Texts.Reading.{Scope}
 use Rattle.hol_model_sessions.specs.Replies.{goals_text}
 use Rattle.hol_just.specs.declared.goal.Goal as code

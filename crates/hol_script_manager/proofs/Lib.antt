@@ -5,4 +5,5 @@ pub mod Managing
 pub mod SettingGoals
 pub mod Expanding
 pub mod Replayed
+pub mod CommandTurns
 mod Refusing

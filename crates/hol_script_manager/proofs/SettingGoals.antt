@@ -1,5 +1,5 @@
 -- A goal is set: the manager that it leaves, and what the command does.
-use Rattle.std.proofs.Common.{◌≡◌, ◌⊎◌, inl, inr, ⊎_elim, List, [], ◌∷◌, map, refl, sym, ap, subst, ◌∙◌, true, None, Result, Ok, Err}
+use Rattle.std.proofs.Common.{◌≡◌, inl, inr, ⊎_elim, List, [], ◌∷◌, map, refl, sym, ap, subst, ◌∙◌, true, None, Result, Ok, Err}
 use Rattle.hol_model.specs.declared.fault.Fault.{Fault}
 use Rattle.hol_model.specs.declared.fault.Fault.TheVariants.{Memory, NotBool, TooLarge}
 use Rattle.hol_model.specs.Terms.NamedTerm.{NamedTerm, equation, is_within_limits}

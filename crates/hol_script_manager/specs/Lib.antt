@@ -3,3 +3,4 @@ pub mod Provers
 pub mod Managers
 pub mod Refusals
 pub mod Session
+pub mod Commands

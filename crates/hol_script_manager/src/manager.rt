@@ -2,17 +2,14 @@
 ghost use Rattle.std.specs.Prelude.{◌≡◌, ℕ, List, [], ◌∷◌, map, IfOk, IfErr, IsErrOf, OnOk, OnErr, Ok, Contains, string_bytes};
 ghost use Rattle.hol_model.specs.declared.fault.Fault.TheVariants.{Memory, TooLong};
 ghost use Rattle.hol_model.specs.Texts.TermGrammar.{TermTree};
-ghost use Rattle.hol_model.specs.Texts.TypeGrammar.{TypeTree, type_steps};
 ghost use Rattle.hol_model.specs.Texts.Lexing.{numeral_value};
 ghost use Rattle.hol_syntax_grammar.specs.Steps.{flat_steps_of};
 ghost use Rattle.hol_syntax_grammar.specs.TermSteps.{term_steps, flat_steps};
-ghost use Rattle.hol_syntax_grammar.specs.Views.{steps_of};
-ghost use Rattle.hol_model_sessions.specs.CommandGrammar.{TheoremTree, var_command, newtype_command, newconst_command, def_command, thm_command, show_command};
-ghost use Rattle.hol_model_sessions.specs.CommandGrammar.{goal_command, e_command, b_command, p_command, r_command, save_command};
+ghost use Rattle.hol_model_sessions.specs.CommandGrammar.{CommandTree, show_command, goal_command, e_command, b_command, p_command, r_command, save_command};
 ghost use Rattle.hol_model_sessions.specs.ScriptSessions.{start};
 ghost use Rattle.hol_script_inference.specs.Sessions.{Performs, no_tools, plainly, Says, IsAcceptedLog, IsLongLog};
 ghost use Rattle.hol_script_inference.specs.Answers.{session_tools};
-ghost use Rattle.hol_script_commands.specs.Views.{IsAsked};
+ghost use Rattle.hol_script_commands.specs.Views.{IsCommand};
 ghost use Rattle.hol_tactic_grammar.specs.Tactics.{IsExpression};
 ghost use Rattle.hol_tactic_reading.specs.Reading.{IsOfTree};
 ghost use Rattle.hol_model.specs.Kernel.Theorem.{Theorem};
@@ -21,6 +18,7 @@ ghost use Rattle.hol_model_sessions.specs.ScriptSessions.{IsProved};
 ghost use Rattle.hol_model_sessions.specs.TacticGrammar.{Tactic};
 ghost use Rattle.hol_journal_log.specs.LogAccepted.{log_claim};
 ghost use Rattle.hol_journal_log.specs.Pruning.{HaveIdentifiers};
+ghost use Rattle.hol_script_manager.specs.Commands.{IsCommandOfTree};
 ghost use Rattle.hol_script_manager.specs.Managers.{state_of, journal_of, claims_of, IsManager, ShowsGoals, IsUndone, Forgets};
 
 use crate::goal_texts::{goals_are_well_formed, text_of_goals, text_of_only_goal};
@@ -28,11 +26,11 @@ use crate::prover::Prover;
 use hol_goals::Stack;
 use hol_host::Refiners;
 use hol_model::{Fault, STEPS_LIMIT};
-use hol_script_commands::command::Asked;
-use hol_script_inference::{Printed, Refused, Session, thm};
+use hol_script_commands::command::Command;
+use hol_script_inference::{Printed, Refused, Session, plainly, thm};
 use hol_sound::sound;
 use hol_syntax::term_of_steps;
-use hol_syntax_grammar::{TermStep, TypeStep};
+use hol_syntax_grammar::TermStep;
 use hol_tactic_exprs::{Fuel, Tac};
 use hol_tactic_reading::read_tactic;
 use std::alloc::Global;
@@ -98,7 +96,7 @@ impl Manager {
 
     /// `goal "p"` (HOL Light's `g`): sets a goal without assumptions, in place of the one before, and shows it. Refused, where
     /// nothing changes: as the term is; as `Stack::set`.
-    pub fn goal(&mut self, alloc: Global, steps: &[TermStep<'_>]) -> Result<Printed, Fault>
+    fn goal(&mut self, alloc: Global, steps: &[TermStep<'_>]) -> Result<Printed, Fault>
         requires { IsManager self.old }
         ensures performs { (tree : TermTree) → flat_steps_of steps.now ≡ flat_steps (term_steps tree)
             → Performs no_tools (state_of self.old) (goal_command tree) (Says (plainly result)) (state_of self.new) }
@@ -126,7 +124,7 @@ impl Manager {
     /// `e` (HOL Light's `e`): refines the first open goal by an expression, and shows the goals that are open then. It may spend
     /// as many steps as one command may (`STEPS_LIMIT`). Refused, where nothing changes: as the first quoted term that is; as
     /// `Stack::expand`.
-    pub fn expand<H: Refiners>(
+    fn expand<H: Refiners>(
         &mut self,
         alloc: Global,
         host: &H,
@@ -163,7 +161,7 @@ impl Manager {
 
     /// `b` (HOL Light's `b`): takes the last change of the proof back, and shows the goals that are open then. Refused, where
     /// nothing changes: NoGoal, NothingToUndo; Memory.
-    pub fn back(&mut self, alloc: Global) -> Result<Printed, Fault>
+    fn back(&mut self, alloc: Global) -> Result<Printed, Fault>
         requires { IsManager self.old }
         ensures performs { Performs no_tools (state_of self.old) b_command (Says (plainly result)) (state_of self.new) }
         ensures kept { IsManager self.new }
@@ -203,7 +201,7 @@ impl Manager {
 
     /// `r n` (HOL Light's `r`): moves the first open goal behind the others, n times, and shows the goals. Refused, where nothing
     /// changes: NoGoal; Memory.
-    pub fn rotate(&mut self, alloc: Global, turns: u32) -> Result<Printed, Fault>
+    fn rotate(&mut self, alloc: Global, turns: u32) -> Result<Printed, Fault>
         requires { IsManager self.old }
         ensures performs { (digits : List ℕ) → numeral_value digits ≡ turns
             → Performs no_tools (state_of self.old) (r_command digits) (Says (plainly result)) (state_of self.new) }
@@ -215,7 +213,7 @@ impl Manager {
 
     /// `save NAME`: stores and prints the theorem of the goal. Refused, where nothing changes: BadName, NameTaken, NoGoal,
     /// GoalsRemain; Memory.
-    pub fn save(&mut self, alloc: Global, name: &str) -> Result<Printed, Fault>
+    fn save(&mut self, alloc: Global, name: &str) -> Result<Printed, Fault>
         requires { IsManager self.old }
         ensures performs { Performs no_tools (state_of self.old) (save_command name.now) (Says (plainly result)) (state_of self.new) }
         ensures kept { IsManager self.new }
@@ -223,22 +221,6 @@ impl Manager {
         self.prover.session.test_name(name)?;
         let theorem = self.stack.top_thm()?.copy(alloc)?;
         self.prover.session.keep(alloc, name, theorem)
-    }
-
-    /// `thm NAME = ..`: stores and prints the theorem that is asked for (`hol_script_inference::thm`).
-    pub fn thm<H: Refiners>(
-        &mut self,
-        alloc: Global,
-        host: &H,
-        name: &str,
-        asked: &Asked<'_>,
-    ) -> Result<Printed, Refused>
-        requires { IsManager self.old }
-        ensures performs { (tree : TheoremTree) → IsAsked asked.now tree
-            → Performs (session_tools (H.refiners host.now) (H.conversions host.now)) (state_of self.old) (thm_command name.now tree) (Says result) (state_of self.new) }
-        ensures kept { IsManager self.new }
-    {
-        thm(&mut self.prover.session, alloc, host, name, asked)
     }
 
     /// `show NAME`: prints a stored theorem again (`Session::show`).
@@ -249,58 +231,36 @@ impl Manager {
         self.prover.session.show(alloc, name)
     }
 
-    /// `var NAME : type`: declares a variable (`Session::var`).
-    pub fn var(
+    /// Carries out a command, which may call a host's functions: what it prints, or a refusal, which changes nothing. `thm`,
+    /// `show`, `var`, `def`, `newtype` and `newconst` are the session's.
+    pub fn perform<H: Refiners>(
         &mut self,
         alloc: Global,
-        name: &str,
-        steps: &[TypeStep<'_>],
-    ) -> Result<Printed, Fault>
-        requires { IsManager self.old }
-        ensures performs { (tree : TypeTree) → steps_of steps.now ≡ type_steps tree
-            → Performs no_tools (state_of self.old) (var_command name.now tree) (Says (plainly result)) (state_of self.new) }
+        host: &H,
+        command: Command<'_>,
+    ) -> Result<Printed, Refused>
+        requires manager { IsManager self.old }
+        requires tree { IsCommandOfTree command }
+        ensures performs { (tree : CommandTree) → IsCommand command.entry tree
+            → Performs (session_tools (H.refiners host.now) (H.conversions host.now)) (state_of self.old) tree (Says result) (state_of self.new) }
         ensures kept { IsManager self.new }
     {
-        self.prover.session.var(alloc, name, steps)
-    }
-
-    /// `def NAME = t`: defines a constant (`Session::def`).
-    pub fn def(
-        &mut self,
-        alloc: Global,
-        name: &str,
-        steps: &[TermStep<'_>],
-    ) -> Result<Printed, Fault>
-        requires { IsManager self.old }
-        ensures performs { (tree : TermTree) → flat_steps_of steps.now ≡ flat_steps (term_steps tree)
-            → Performs no_tools (state_of self.old) (def_command name.now tree) (Says (plainly result)) (state_of self.new) }
-        ensures kept { IsManager self.new }
-    {
-        self.prover.session.def(alloc, name, steps)
-    }
-
-    /// `newtype NAME`: declares a type (`Session::newtype`).
-    pub fn newtype(&mut self, alloc: Global, name: &str) -> Result<Printed, Fault>
-        requires { IsManager self.old }
-        ensures performs { Performs no_tools (state_of self.old) (newtype_command name.now) (Says (plainly result)) (state_of self.new) }
-        ensures kept { IsManager self.new }
-    {
-        self.prover.session.newtype(alloc, name)
-    }
-
-    /// `newconst NAME : type`: declares a constant (`Session::newconst`).
-    pub fn newconst(
-        &mut self,
-        alloc: Global,
-        name: &str,
-        steps: &[TypeStep<'_>],
-    ) -> Result<Printed, Fault>
-        requires { IsManager self.old }
-        ensures performs { (tree : TypeTree) → steps_of steps.now ≡ type_steps tree
-            → Performs no_tools (state_of self.old) (newconst_command name.now tree) (Says (plainly result)) (state_of self.new) }
-        ensures kept { IsManager self.new }
-    {
-        self.prover.session.newconst(alloc, name, steps)
+        match command {
+            Command::Thm(name, asked) => {
+                thm(&mut self.prover.session, alloc, host, name, &asked)
+            }
+            Command::Show(name) => plainly(self.show(alloc, name)),
+            Command::Var(name, ty) => plainly(self.prover.session.var(alloc, name, &ty)),
+            Command::Def(name, term) => plainly(self.prover.session.def(alloc, name, &term)),
+            Command::NewType(name) => plainly(self.prover.session.newtype(alloc, name)),
+            Command::NewConst(name, ty) => plainly(self.prover.session.newconst(alloc, name, &ty)),
+            Command::Goal(term) => plainly(self.goal(alloc, &term)),
+            Command::Expand(tac) => plainly(self.expand(alloc, host, &tac)),
+            Command::Back => plainly(self.back(alloc)),
+            Command::Print => plainly(self.print(alloc)),
+            Command::Rotate(turns) => plainly(self.rotate(alloc, turns)),
+            Command::Save(name) => plainly(self.save(alloc, name)),
+        }
     }
 
     /// The text of the log of the theorems that are stored under these names, with a claim for each (`Session::log_text`).

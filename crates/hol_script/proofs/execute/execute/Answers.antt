@@ -23,7 +23,7 @@ pub returns-in-Ok-parse_command-clause-turns : goal.returns-in-Ok-parse_command-
 returns-in-Ok-parse_command-clause-turns g c =
     let lexed = subst (λ (tokens : List _). Lexes c.args.text.now (tokens_of tokens)) (sym c.deref.ensures.value) c.in-Ok.ensures.found in
     let (tree, read, is) = c.in-Ok-parse_command.ensures in
-    spelled_turn c.args.text.now tree (record { tokens = tokens_of c.deref.result.now; lexed = lexed; read = read }) (c.carry_out.ensures.performs tree is)
+    spelled_turn c.args.text.now tree (record { tokens = tokens_of c.deref.result.now; lexed = lexed; read = read }) (c.perform.ensures.performs tree is)
 
 pub returns-in-Err-Memory-parse_command-clause-turns : goal.returns-in-Err-Memory-parse_command-clause-turns
 returns-in-Err-Memory-parse_command-clause-turns g c =

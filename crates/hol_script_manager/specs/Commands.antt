@@ -4,6 +4,6 @@ use Rattle.hol_script_commands.specs.declared.command.Command.{Command}
 use Rattle.hol_script_commands.specs.Views.{IsCommand}
 
 -- the command is that of a tree of the grammar
-pub record IsOfTree (command : Command) : Type 0 where
+pub record IsCommandOfTree (command : Command) : Type 0 where
   pub tree : CommandTree
   pub is : IsCommand command tree
