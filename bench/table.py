@@ -57,6 +57,7 @@ WORKS = [
     ("REPEAT (DISJ_CASES_TAC ..), refused", "works.py runaway cases", None, None, "run", "runaway cases"),
     ("REPEAT (MP_TAC .. THEN DISCH_TAC), refused", "works.py runaway mp", None, None, "run", "runaway mp"),
     ("REPEAT (CHOOSE_TAC ..), refused", "works.py runaway choose", None, None, "run", "runaway choose"),
+    ("REPEAT ALL_TAC once, refused", "works.py loops {}", 1, None, "run", None),
     ("{} times REPEAT ALL_TAC, refused", "works.py loops {}", 1000, 500, "run", None),
     ("`check` of {} rounds of six rules", "log.sh {} 20", 80000, 40000, "check log", None),
     ("`check` of {} abstractions over one open term", "open.sh {} 18", 1000, 500, "check log", None),
