@@ -144,7 +144,7 @@ fn add_assum_unless_known(
     add_assum(recorder, alloc, p, premise)
 }
 
-// A theorem under further assumptions.
+// A theorem under further assumptions, which are walked unless they are known.
 fn with_assumptions(
     recorder: &mut Recorder,
     alloc: Global,
@@ -164,7 +164,7 @@ fn with_assumptions(
     Ok(theorem)
 }
 
-// A goal's sequent, under the hypotheses of a theorem that says `F`.
+// A goal's sequent, under the hypotheses of a theorem that says `F`. The goal's formulas are walked unless they are known.
 #[tactic(auto, using(crate::proofs::SupposingLemmas::supposing))]
 fn supposed_from(
     recorder: &mut Recorder,
@@ -234,7 +234,7 @@ fn pushed(theorems: &mut Vec<Rec>, theorem: Rec) -> Result<(), Fault>
     Ok(())
 }
 
-// Each goal's sequent, under the hypotheses of a theorem that says `F`.
+// Each goal's sequent, under the hypotheses of a theorem that says `F`. The goals' formulas are walked unless they are known.
 pub(crate) fn suppose_all(
     recorder: &mut Recorder,
     alloc: Global,

@@ -10,9 +10,6 @@ use Rattle.hol_just_replay.proofs.AcceptingLemmas.{replays-under, supposes-not}
 use Rattle.hol_equal.proofs.StepLemmas.{passed_on}
 use Rattle.hol_just_replay.proofs.accepting.replayed_under.Goals as goal
 
-pub suppose_all-requires-clause-known : goal.suppose_all-requires-clause-known
-suppose_all-requires-clause-known c is = rw c.deref.ensures.value (c.requires.known is)
-
 pub returns-in_err-subgoals-clause-replayed : goal.returns-in_err-subgoals-clause-replayed
 returns-in_err-subgoals-clause-replayed c extra shows =
     rw (passed_on c.from_residual.result c.in_err-subgoals.field-0.0 c.from_residual.ensures.1) (
@@ -28,3 +25,6 @@ returns-clause-replayed c extra shows =
 
 pub replayed-requires-clause-store : goal.replayed-requires-clause-store
 replayed-requires-clause-store c = store-stays c.args.recorder.now c.suppose_all.new.recorder (stored_of c.args.store.now) c.suppose_all.ensures.grown c.requires.store
+
+pub suppose_all-requires-clause-known : goal.suppose_all-requires-clause-known
+suppose_all-requires-clause-known c is = rw c.deref.ensures.value (c.requires.known is)

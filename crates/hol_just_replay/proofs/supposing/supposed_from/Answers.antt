@@ -14,11 +14,6 @@ use Rattle.hol_just_replay.proofs.supposing.supposed_from.Goals as goal
 pub contr_unless_known-requires-clause-known : goal.contr_unless_known-requires-clause-known
 contr_unless_known-requires-clause-known c is = known-target c.args.recorder.now.theory (goal_of c.args.goal.now) (c.requires.known is)
 
-pub with_assumptions-requires-clause-known : goal.with_assumptions-requires-clause-known
-with_assumptions-requires-clause-known c is =
-    rw (c.deref.ensures.value, c.in_ok-theorem.ensures.continues.theory)
-    (known-assumptions c.args.recorder.now.theory (goal_of c.args.goal.now) (c.requires.known is))
-
 pub returns-clause-drawn : goal.returns-clause-drawn
 returns-clause-drawn c =
     contr-supposes c.args.recorder.now.theory c.args.falsity.now.theorem (goal_of c.args.goal.now) c.in_ok-theorem.theorem.theorem
@@ -41,3 +36,8 @@ pub returns-clause-fits : goal.returns-clause-fits
 returns-clause-fits c room =
     let roomy = supposing-roomy c.args.recorder.now.theory c.args.falsity.now.theorem c.in_ok-theorem.theorem.theorem (goal_of c.args.goal.now) c.in_ok-theorem.ensures.inferred room in
     c.with_assumptions.ensures.fits roomy.0 (rw c.deref.ensures.value roomy.1)
+
+pub with_assumptions-requires-clause-known : goal.with_assumptions-requires-clause-known
+with_assumptions-requires-clause-known c is =
+    rw (c.deref.ensures.value, c.in_ok-theorem.ensures.continues.theory)
+    (known-assumptions c.args.recorder.now.theory (goal_of c.args.goal.now) (c.requires.known is))
