@@ -1,5 +1,5 @@
 -- CONJ by equations with `T`: what theorems of the prelude show, hypotheses without `T`, what has to fit, and the names.
-use Rattle.std.proofs.Common.{◌≡◌, List, [], ◌∷◌, ◌++◌, map, Bool, true, false, ◌||◌, refl, sym, ◌∙◌, ap, subst, inl, inr, Some, Result, Ok, Err, IfOk, arith, append-nil}
+use Rattle.std.proofs.Common.{◌≡◌, List, [], ◌∷◌, ◌++◌, map, Bool, true, false, refl, sym, ◌∙◌, ap, subst, inl, inr, Some, Result, Ok, Err, IfOk, arith, append-nil}
 use Rattle.std.specs.Prelude.{slice_get}
 use Rattle.std.specs.List.{list_any}
 use Rattle.std.proofs.lemmas.Slice.Eq.{bytes_eq-Decides}
@@ -14,7 +14,7 @@ use Rattle.hol_model.specs.Logic.Logic.{true_name, and_name, unary, binary}
 use Rattle.hol_model.specs.Logic.NamedLogic.{true_term, is_true, conjunction}
 use Rattle.hol_model.specs.Kernel.Theorem.{Theorem}
 use Rattle.hol_model.specs.Kernel.Rules.{dest_equation}
-use Rattle.hol_model.proofs.Tests.{same_term-Decides}
+use Rattle.hol_model.proofs.Tests.{first_of_neither, second_of_neither, same_term-Decides}
 use Rattle.hol_journal.specs.Journal.{Recorded}
 use Rattle.hol_prelude.specs.Prelude.{prelude_theorems, shown}
 use Rattle.hol_equal.specs.Room.{FitsIf}
@@ -54,10 +54,6 @@ stated-names conclusion theorem is = sym (ap (λ (t : Theorem). t.conclusion) is
 
 -- hypotheses among which there is no constant named `T` are the same without `T`
 
-neither_is : (a b : Bool) → (a || b) ≡ false → (a ≡ false) × (b ≡ false)
-neither_is true b is = cc
-neither_is false b is = (refl, is)
-
 truth-of : (term : NamedTerm) → image term ≡ nameless.true_term → is_true term ≡ true
 truth-of (constant name ty) is = (bytes_eq-Decides name true_name).1 cc
 truth-of (variable name ty) is = cc
@@ -74,8 +70,8 @@ other-than_truth term other = go (same_term (image term) nameless.true_term) ref
 others-than_truth : (hypotheses : List NamedTerm) → list_any is_true hypotheses ≡ false → (x : Nameless) → IsMember x (map image hypotheses) → same_term x nameless.true_term ≡ false
 others-than_truth [] absent x m = absurd m
 others-than_truth (t ∷ hypotheses) absent x (inl e) =
-    ap (λ u. same_term u nameless.true_term) e ∙ other-than_truth t (neither_is (is_true t) (list_any is_true hypotheses) absent).0
-others-than_truth (t ∷ hypotheses) absent x (inr m) = others-than_truth hypotheses (neither_is (is_true t) (list_any is_true hypotheses) absent).1 x m
+    ap (λ u. same_term u nameless.true_term) e ∙ other-than_truth t (first_of_neither (is_true t) (list_any is_true hypotheses) absent)
+others-than_truth (t ∷ hypotheses) absent x (inr m) = others-than_truth hypotheses (second_of_neither (is_true t) (list_any is_true hypotheses) absent) x m
 
 without-none : (h : List Nameless) → ((x : Nameless) → IsMember x h → same_term x nameless.true_term ≡ false) → without nameless.true_term h ≡ h
 without-none [] others = refl

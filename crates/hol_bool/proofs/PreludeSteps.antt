@@ -81,6 +81,24 @@ way-fits theory number terms room premise conclusion leads is =
     joined true false c d e first three four five = cc
     joined false b c d e first three four five = cc
 
+-- so does what is instantiated, with its hypothesis
+pub instance-fits : (theory : Theory) (number : ℕ) (terms : List (NamedTerm × NamedTerm)) (room : Bool) (premise conclusion : Nameless)
+    (leads : LeadsTo theory number terms room premise conclusion) → room ≡ true
+    → list_all nameless_within_limits (instantiate_all [] (image leads.stated) ∷ instantiate_all [] (image leads.hypothesis)
+    ∷ instance_of [] terms (image leads.stated) ∷ instance_of [] terms (image leads.hypothesis) ∷ []) ≡ true
+instance-fits theory number terms room premise conclusion leads is =
+    first-four (nameless_within_limits (instantiate_all [] (image leads.stated))) (nameless_within_limits (instantiate_all [] (image leads.hypothesis)))
+    (nameless_within_limits (instance_of [] terms (image leads.stated))) (nameless_within_limits (instance_of [] terms (image leads.hypothesis)))
+    (nameless_within_limits (nameless_equation bool_type (instance_of [] terms (image leads.hypothesis)) (instance_of [] terms (image leads.stated))))
+    (way-fits theory number terms room premise conclusion leads is)
+  where
+    first-four : (a b c d e : Bool) → (a && (b && (c && (d && (e && true))))) ≡ true → (a && (b && (c && (d && true)))) ≡ true
+    first-four true true true true e all = refl
+    first-four true true true false e all = cc
+    first-four true true false d e all = cc
+    first-four true false c d e all = cc
+    first-four false b c d e all = cc
+
 -- the theorem of the number says what is instantiated, which fits
 
 pub says-shows : (theory : Theory) (number : ℕ) (terms : List (NamedTerm × NamedTerm)) (room : Bool) (conclusion : Nameless) (says : Says theory number terms room conclusion) (theorem : Theorem)
@@ -133,11 +151,3 @@ p-known theory a terms are one = subst (λ (l : List (NamedTerm × NamedTerm)). 
 
 pub p_q-known : (theory : Theory) (a b : NamedTerm) (terms : List (NamedTerm × NamedTerm)) → terms ≡ at_p_q a b → IsFormula theory a → IsFormula theory b → replacements_refusal theory terms ≡ None
 p_q-known theory a b terms are one two = subst (λ (l : List (NamedTerm × NamedTerm)). replacements_refusal theory l ≡ None) (sym are) (p_q-passes theory a b one two)
-
-pub p_q_r-known : (theory : Theory) (a b c : NamedTerm) (terms : List (NamedTerm × NamedTerm)) → terms ≡ at_p_q_r a b c → IsFormula theory a → IsFormula theory b → IsFormula theory c
-    → replacements_refusal theory terms ≡ None
-p_q_r-known theory a b c terms are one two three = subst (λ (l : List (NamedTerm × NamedTerm)). replacements_refusal theory l ≡ None) (sym are) (p_q_r-passes theory a b c one two three)
-
--- and they stay so
-pub still_known : (now old : Theory) (terms : List (NamedTerm × NamedTerm)) → now ≡ old → replacements_refusal old terms ≡ None → replacements_refusal now terms ≡ None
-still_known now old terms same known = subst (λ (t : Theory). replacements_refusal t terms ≡ None) (sym same) known

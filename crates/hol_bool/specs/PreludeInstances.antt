@@ -1,5 +1,5 @@
 -- Theorems of the prelude at formulas for their variables p, q and r.
-use Rattle.std.specs.Prelude.{◌≡◌, ℕ, List, [], ◌∷◌, true, Some, None, Result, slice_get}
+use Rattle.std.specs.Prelude.{◌≡◌, ℕ, List, [], ◌∷◌, true, false, Some, None, Result, slice_get}
 use Rattle.hol_model.specs.declared.fault.Fault.{Fault}
 use Rattle.std.specs.List.{list_all}
 use Rattle.hol_model.specs.Terms.NamedTerm.{NamedTerm}
@@ -34,6 +34,11 @@ pub record LeadsTo (theory : Theory) (number : ℕ) (terms : List (NamedTerm × 
   pub conclusion_is : conclusion ≡ instance_of [] terms (image stated)
   pub premise_fits : FitsIf room premise
   pub conclusion_fits : FitsIf room conclusion
+
+-- it leads there from some term
+pub record Leads (theory : Theory) (number : ℕ) (terms : List (NamedTerm × NamedTerm)) (conclusion : Nameless) : Type 0 where
+  pub premise : Nameless
+  pub leads : LeadsTo theory number terms false premise conclusion
 
 -- from the hypothesis of the theorem of this number of the prelude at these terms, what is stated
 abbrev pub TheoremDerives : Theory → ℕ → List (NamedTerm × NamedTerm) → NamedTerm → Theorem → Result Recorded Fault → Type 0

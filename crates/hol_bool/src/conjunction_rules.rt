@@ -16,7 +16,7 @@ ghost use Rattle.hol_equal.specs.Sequents.{Shows, DerivesIf, Continues};
 ghost use Rattle.hol_equal.specs.Inferred.{Infers};
 
 use crate::formula_terms::{connect, equivalence, for_p_q, is_named};
-use crate::prelude_rules::{by_leading_theorem, by_theorem, sides_of};
+use crate::prelude_rules::{by_leading_theorem, sides_of};
 use hol_equal::steps::{self, conclusion_of};
 use hol_journal::{Rec, Recorder};
 use hol_model::Fault;
@@ -43,7 +43,7 @@ pub fn conjunct1(
         return Err(Fault::BadShape);
     };
     let terms = for_p_q(alloc, sides.left, sides.right)?;
-    by_theorem(
+    by_leading_theorem(
         recorder, alloc, logic, CONJUNCT1, &terms, sides.left, premise,
     )
 }
@@ -66,7 +66,7 @@ pub fn conjunct2(
         return Err(Fault::BadShape);
     };
     let terms = for_p_q(alloc, sides.left, sides.right)?;
-    by_theorem(
+    by_leading_theorem(
         recorder,
         alloc,
         logic,

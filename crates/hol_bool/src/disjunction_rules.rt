@@ -1,5 +1,5 @@
 // Rules of disjunction.
-ghost use Rattle.std.specs.Prelude.{◌≡◌, ◌<◌, ◌++◌, ◌∷◌, List, IfOk, Some, [], length};
+ghost use Rattle.std.specs.Prelude.{◌≡◌, ◌<◌, ◌++◌, ◌∷◌, List, IfOk, Some, [], false, length};
 ghost use Rattle.hol_model.specs.Terms.HolType.{bool_type};
 ghost use Rattle.hol_model.specs.Terms.NamedTerm.{type_of};
 ghost use Rattle.hol_model.specs.Terms.Nameless.{Nameless, image};
@@ -13,13 +13,14 @@ ghost use Rattle.hol_prelude.specs.Prelude.{prelude_theorems};
 ghost use Rattle.hol_prelude.specs.HasLogic.{HasLogic};
 ghost use Rattle.hol_equal.specs.Formulas.{IsFormula};
 ghost use Rattle.hol_equal.specs.Room.{Room, FitsIf, MakesIf};
+ghost use Rattle.hol_bool.specs.PreludeInstances.{LeadsTo, at_p_q};
 ghost use Rattle.hol_bool.specs.Disjunctions.{LeavesRoomIf, MakesDisjunction, other_case, both_cases};
 ghost use Rattle.hol_equal.specs.Sequents.{Shows, DerivesIf, Continues};
 ghost use Rattle.hol_equal.specs.Inferred.{Infers};
 
 use crate::formula_terms::{Sides, connect, for_p_q, for_p_q_r};
 use crate::implication_rules::{disch_in_room, mp_in_room};
-use crate::prelude_rules::{by_theorem, pass_formula, sides_of};
+use crate::prelude_rules::{by_leading_theorem, pass_formula, sides_of};
 use hol_alpha::aconv;
 use hol_equal::conclusion_of;
 use hol_journal::{Rec, Recorder};
@@ -44,6 +45,7 @@ fn with_disjunct(
     requires left { IsFormula recorder.old.theory p.now }
     requires right { IsFormula recorder.old.theory q.now }
     requires premise { IsMade recorder.old premise.now }
+    requires leads { LeadsTo recorder.old.theory number (at_p_q p.now q.now) false (image premise.now.theorem.conclusion) (image (disjunction p.now q.now)) }
     ensures continues { Continues recorder.old recorder.new result }
     ensures names { IfOk result (λ made. made.theorem.conclusion ≡ disjunction p.now q.now) }
     ensures derives { MakesDisjunction recorder.old.theory number p.now q.now premise.now.theorem result }
@@ -51,7 +53,7 @@ fn with_disjunct(
     recorder.theory_is_legal();
     let stated = connect(alloc, "\\/", p, q)?;
     let terms = for_p_q(alloc, p, q)?;
-    by_theorem(recorder, alloc, logic, number, &terms, &stated, premise)
+    by_leading_theorem(recorder, alloc, logic, number, &terms, &stated, premise)
 }
 
 /// DISJ1: from `p`, `p \/ q`, in at most five steps. Refused where `q` is not of type `bool`, and then where the theory does not
@@ -123,6 +125,7 @@ fn disj_cases_in_room(
     requires r { IsFormula recorder.old.theory r.now }
     requires rest { rest.now ≡ other_case sides.right.now r.now }
     requires theorem { IsMade recorder.old theorem.now }
+    requires whole { theorem.now.theorem.conclusion ≡ disjunction sides.left.now sides.right.now }
     ensures continues { Continues recorder.old recorder.new result }
     ensures derives { (h : List Nameless) (room : Room) → Shows theorem.now.theorem h
         (image (disjunction sides.entry.left.now sides.entry.right.now))
@@ -134,7 +137,7 @@ fn disj_cases_in_room(
     let case = connect(alloc, "==>", sides.left, r)?;
     let stated = connect(alloc, "==>", &case, rest)?;
     let terms = for_p_q_r(alloc, sides.left, sides.right, r)?;
-    by_theorem(recorder, alloc, logic, DISJ_CASES, &terms, &stated, theorem)
+    by_leading_theorem(recorder, alloc, logic, DISJ_CASES, &terms, &stated, theorem)
 }
 
 // From `(p ==> r) ==> s` and `r`, the `s` that is handed in, without the hypothesis `p` of the second.
@@ -180,6 +183,7 @@ fn by_cases(
     requires left { IsFormula recorder.old.theory sides.left.now }
     requires right { IsFormula recorder.old.theory sides.right.now }
     requires theorem { IsMade recorder.old theorem.now }
+    requires whole { theorem.now.theorem.conclusion ≡ disjunction sides.left.now sides.right.now }
     requires first { IsMade recorder.old first.now }
     requires second { IsMade recorder.old second.now }
     ensures continues { Continues recorder.old recorder.new result }
@@ -197,7 +201,7 @@ fn by_cases(
 }
 
 /// DISJ_CASES: from `p \/ q`, `r` and `r`, `r` without the hypothesis `p` of the first case and `q` of the second, in at
-/// most 55 steps. Refused where the conclusion is no disjunction, and then where the cases' conclusions differ in more than the names
+/// most 49 steps. Refused where the conclusion is no disjunction, and then where the cases' conclusions differ in more than the names
 /// of bound variables.
 #[tactic(auto, using(crate::proofs::InferredRules::infers_disj_cases))]
 pub fn disj_cases(

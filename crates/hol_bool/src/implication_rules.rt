@@ -4,7 +4,7 @@ ghost use Rattle.hol_model.specs.Terms.HolType.{bool_type};
 ghost use Rattle.hol_model.specs.Terms.Nameless.{Nameless, image};
 ghost use Rattle.hol_model.specs.Logic.Logic as nameless;
 ghost use Rattle.hol_model.specs.Logic.NamedLogic.{implication};
-ghost use Rattle.hol_model.specs.Logic.Logic.{and_name};
+ghost use Rattle.hol_model.specs.Logic.Logic.{implies_name};
 ghost use Rattle.hol_model.specs.Logic.Derivable.{without, nameless_equation};
 ghost use Rattle.hol_model.specs.Derived.DerivedRules.{AnswersStated, terms_of_theorem, mp_outcome, disch_outcome, undisch_outcome};
 ghost use Rattle.hol_model.specs.Derived.InferenceRules.{rule_disch, rule_undisch, rule_mp};
@@ -17,7 +17,9 @@ ghost use Rattle.hol_equal.specs.Inferred.{Infers};
 
 use crate::conjunction_rules::conj_in_room;
 use crate::formula_terms::{connect, equivalence, for_p_q};
-use crate::prelude_rules::{by_theorem, pass_formula, sides_of};
+use crate::prelude_rules::{
+    by_leading_theorem, by_theorem, leading_theorem, pass_formula, sides_of,
+};
 use hol_alpha::aconv;
 use hol_equal::steps::{self, conclusion_of};
 use hol_journal::{Rec, Recorder};
@@ -82,25 +84,22 @@ pub fn mp(
 }
 
 // From `p /\ q`, as a hypothesis, `p`.
-#[tactic(auto, using(crate::proofs::PreludeSteps::staying))]
 fn first_of_both(
     recorder: &mut Recorder,
     alloc: Global,
     logic: &Bool,
     p: &Term,
     q: &Term,
-    both: &Term,
 ) -> Result<Rec, Fault>
     requires logic { HasLogic recorder.old logic.now }
-    requires sides { AreSides recorder.old.theory and_name both.now p.now q.now }
-    requires both { IsFormula recorder.old.theory both.now }
+    requires first { IsFormula recorder.old.theory p.now }
+    requires second { IsFormula recorder.old.theory q.now }
     ensures continues { Continues recorder.old recorder.new result }
-    ensures names { IfOk result (λ made. made.theorem.conclusion ≡ p.now) }
-    ensures derives { (room : Room) → FitsIf room (image both.now) → DerivesIf room result (image both.now ∷ []) (image p.now) }
+    ensures derives { (room : Room) → FitsIf room (nameless.conjunction (image p.now) (image q.now))
+        → DerivesIf room result (nameless.conjunction (image p.now) (image q.now) ∷ []) (image p.now) }
 {
-    let assumed = steps::assume_known(recorder, alloc, both)?;
     let terms = for_p_q(alloc, p, q)?;
-    by_theorem(recorder, alloc, logic, CONJUNCT1, &terms, p, &assumed)
+    leading_theorem(recorder, alloc, logic, CONJUNCT1, &terms, p)
 }
 
 // From `q`, `p /\ q <=> p` without the hypothesis `p`.
@@ -122,10 +121,9 @@ fn conj_absorption(
 {
     let assumed = steps::assume_known(recorder, alloc, p)?;
     let joined = conj_in_room(recorder, alloc, logic, &assumed, premise)?;
-    let both = conclusion_of(recorder, &joined);
     let q = conclusion_of(recorder, premise);
-    let first = first_of_both(recorder, alloc, logic, p, q, both)?;
-    steps::deduct_antisym(recorder, alloc, &joined, &first)
+    let first = first_of_both(recorder, alloc, logic, p, q)?;
+    steps::deduct_antisym_known(recorder, alloc, &joined, &first)
 }
 
 /// DISCH, with the room that it needs: from `q`, `p ==> q` without the hypothesis `p`, for a formula `p` that the theory
@@ -151,10 +149,10 @@ pub fn disch_in_room(
     let stated = connect(alloc, "==>", p, q)?;
     let terms = for_p_q(alloc, p, q)?;
     let equation = conj_absorption(recorder, alloc, logic, p, premise)?;
-    by_theorem(recorder, alloc, logic, DISCH, &terms, &stated, &equation)
+    by_leading_theorem(recorder, alloc, logic, DISCH, &terms, &stated, &equation)
 }
 
-/// DISCH: from `q`, `p ==> q` without the hypothesis `p`, in at most 19 steps. Refused where `p` is not of type `bool`, and then
+/// DISCH: from `q`, `p ==> q` without the hypothesis `p`, in at most 16 steps. Refused where `p` is not of type `bool`, and then
 /// where the theory does not know a type or a constant of it.
 #[tactic(auto, using(crate::proofs::InferredRules::infers_disch))]
 pub fn disch(
@@ -175,8 +173,33 @@ pub fn disch(
     disch_in_room(recorder, alloc, logic, p, premise)
 }
 
-/// UNDISCH: from `p ==> q`, `q` with the hypothesis `p`, in at most seven steps. Refused where the conclusion is no implication.
-#[tactic(auto, using(crate::proofs::InferredRules::infers_undisch, crate::proofs::PreludeSteps::staying))]
+// From `p ==> q`, `q` with the hypothesis `p`.
+fn undisch_in_room(
+    recorder: &mut Recorder,
+    alloc: Global,
+    logic: &Bool,
+    p: &Term,
+    q: &Term,
+    premise: &Rec,
+) -> Result<Rec, Fault>
+    requires logic { HasLogic recorder.old logic.now }
+    requires premise { IsMade recorder.old premise.now }
+    requires sides { AreSides recorder.old.theory implies_name premise.now.theorem.conclusion p.now q.now }
+    ensures continues { Continues recorder.old recorder.new result }
+    ensures names { IfOk result (λ made. made.theorem.conclusion ≡ q.now) }
+    ensures derives { (h : List Nameless) (room : Room) → Shows premise.now.theorem h (nameless.implication (image p.now) (image q.now))
+        → FitsIf room (nameless_equation bool_type (nameless.implication (image p.now) (image q.now)) (image q.now))
+        → DerivesIf room result (image p.now ∷ h) (image q.now) }
+{
+    let whole = conclusion_of(recorder, premise);
+    let stated = equivalence(alloc, whole, q)?;
+    let terms = for_p_q(alloc, p, q)?;
+    let equation = leading_theorem(recorder, alloc, logic, MP, &terms, &stated)?;
+    steps::eq_mp_known(recorder, alloc, &equation, premise)
+}
+
+/// UNDISCH: from `p ==> q`, `q` with the hypothesis `p`, in at most four steps. Refused where the conclusion is no implication.
+#[tactic(auto, using(crate::proofs::InferredRules::infers_undisch))]
 pub fn undisch(
     recorder: &mut Recorder,
     alloc: Global,
@@ -192,6 +215,5 @@ pub fn undisch(
     let Some(sides) = sides_of(recorder, logic, premise, "==>") else {
         return Err(Fault::BadShape);
     };
-    let assumed = steps::assume_known(recorder, alloc, sides.left)?;
-    mp_in_room(recorder, alloc, logic, sides.right, premise, &assumed)
+    undisch_in_room(recorder, alloc, logic, sides.left, sides.right, premise)
 }

@@ -10,7 +10,7 @@ ghost use Rattle.hol_equal.specs.Sequents.{Continues};
 ghost use Rattle.hol_equal.specs.Inferred.{Infers};
 
 use crate::formula_terms::{connect, falsity, for_p, is_named, negate};
-use crate::prelude_rules::{by_leading_theorem, by_theorem, negated_of, pass_formula, sides_of};
+use crate::prelude_rules::{by_leading_theorem, negated_of, pass_formula, sides_of};
 use hol_equal::conclusion_of;
 use hol_journal::{Rec, Recorder};
 use hol_model::Fault;
@@ -42,7 +42,7 @@ pub fn not_intro(
     recorder.theory_is_legal();
     let stated = negate(alloc, sides.left)?;
     let terms = for_p(alloc, sides.left)?;
-    by_theorem(recorder, alloc, logic, NOT_INTRO, &terms, &stated, premise)
+    by_leading_theorem(recorder, alloc, logic, NOT_INTRO, &terms, &stated, premise)
 }
 
 /// NOT_ELIM: from `~p`, `p ==> F`, in at most five steps. Refused where the conclusion is no negation.
@@ -65,7 +65,7 @@ pub fn not_elim(
     let falsity = falsity(alloc)?;
     let stated = connect(alloc, "==>", part, &falsity)?;
     let terms = for_p(alloc, part)?;
-    by_theorem(recorder, alloc, logic, NOT_ELIM, &terms, &stated, premise)
+    by_leading_theorem(recorder, alloc, logic, NOT_ELIM, &terms, &stated, premise)
 }
 
 /// CONTR: from `F`, `p`, in at most five steps. Refused where the conclusion is not `F`, then where `p` is not of type `bool`, and

@@ -1,11 +1,11 @@
 // Steps by the theorems of the prelude.
-ghost use Rattle.std.specs.Prelude.{◌≡◌, ◌<◌, ◌⊎◌, [], IfOk, IfErr, OnOk, IfSome, Some, None, false, length};
+ghost use Rattle.std.specs.Prelude.{◌≡◌, ◌<◌, ◌⊎◌, [], ◌∷◌, IfOk, IfErr, OnOk, IfSome, Some, None, false, length};
 ghost use Rattle.std.specs.Option.{option_map};
 ghost use Rattle.hol_model.specs.declared.fault.Fault.TheVariants.{Memory};
 ghost use Rattle.hol_model.specs.Logic.Theory.{IsLegal, generic_type};
 ghost use Rattle.hol_model.specs.Logic.Logic.{logical_definitions, binary};
 ghost use Rattle.hol_model.specs.Logic.NamedLogic.{dest_connected, dest_negation};
-ghost use Rattle.hol_model.specs.Terms.Nameless.{image};
+ghost use Rattle.hol_model.specs.Terms.Nameless.{Nameless, image};
 ghost use Rattle.hol_model.specs.Kernel.Instantiation.{replacements_refusal};
 ghost use Rattle.hol_model.specs.Kernel.Rules.{first_unknown};
 ghost use Rattle.hol_journal.specs.Journal.{IsMade};
@@ -14,7 +14,7 @@ ghost use Rattle.hol_prelude.specs.HasLogic.{HasLogic};
 ghost use Rattle.hol_equal.specs.Formulas.{IsFormula, AreSides, IsNegated, IsPassed, IsRefused};
 ghost use Rattle.hol_equal.specs.Room.{Room};
 ghost use Rattle.hol_equal.specs.Sequents.{DerivesIf, Continues};
-ghost use Rattle.hol_bool.specs.PreludeInstances.{LeadsTo, Says, TheoremDerives};
+ghost use Rattle.hol_bool.specs.PreludeInstances.{LeadsTo, Leads, Says, TheoremDerives};
 
 use crate::formula_terms::{Sides, connected_sides, negated_part};
 use hol_equal::{
@@ -73,6 +73,30 @@ pub(crate) fn by_leading_theorem(
 {
     let lemma = theorem_of(recorder, logic, number);
     let answer = by_fitting_lemma(recorder, alloc, &[], terms, lemma, premise)?;
+    named_same(recorder, alloc, stated, &answer)
+}
+
+/// A theorem of the prelude at these terms, whose conclusion there has these names, in one step, and two more where a variable is
+/// bound in it. Its hypothesis is kept. A proof shows what is stated, so that nothing is compared.
+pub(crate) fn leading_theorem(
+    recorder: &mut Recorder,
+    alloc: Global,
+    logic: &Bool,
+    number: usize,
+    terms: &[(Term, Term)],
+    stated: &Term,
+) -> Result<Rec, Fault>
+    requires logic { HasLogic recorder.old logic.now }
+    requires number { number < length prelude_theorems }
+    requires stated { IsFormula recorder.old.theory stated.now }
+    requires leads { Leads recorder.old.theory number terms.now (image stated.now) }
+    ensures continues { Continues recorder.old recorder.new result }
+    ensures names { IfOk result (λ made. made.theorem.conclusion ≡ stated.now) }
+    ensures derives { (premise : Nameless) (room : Room) → LeadsTo recorder.old.theory number terms.now room premise (image stated.now)
+        → DerivesIf room result (premise ∷ []) (image stated.now) }
+{
+    let lemma = theorem_of(recorder, logic, number);
+    let answer = instance_known(recorder, alloc, &[], terms, lemma)?;
     named_same(recorder, alloc, stated, &answer)
 }
 

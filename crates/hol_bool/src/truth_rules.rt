@@ -8,7 +8,7 @@ ghost use Rattle.hol_equal.specs.Sequents.{Continues};
 ghost use Rattle.hol_equal.specs.Inferred.{Infers};
 
 use crate::formula_terms::{equivalence, for_p, is_named, truth};
-use crate::prelude_rules::by_theorem;
+use crate::prelude_rules::by_leading_theorem;
 use hol_equal::conclusion_of;
 use hol_equal::equality::equation_parts;
 use hol_journal::{Rec, Recorder};
@@ -35,7 +35,7 @@ pub fn eqt_intro(
     let truth = truth(alloc)?;
     let stated = equivalence(alloc, conclusion, &truth)?;
     let terms = for_p(alloc, conclusion)?;
-    by_theorem(recorder, alloc, logic, EQT_INTRO, &terms, &stated, premise)
+    by_leading_theorem(recorder, alloc, logic, EQT_INTRO, &terms, &stated, premise)
 }
 
 /// EQT_ELIM: from `p <=> T`, `p`, in at most five steps. Refused where the conclusion is no equation with `T` on its right.
@@ -60,7 +60,7 @@ pub fn eqt_elim(
         return Err(Fault::BadShape);
     }
     let terms = for_p(alloc, parts.left)?;
-    by_theorem(
+    by_leading_theorem(
         recorder, alloc, logic, EQT_ELIM, &terms, parts.left, premise,
     )
 }

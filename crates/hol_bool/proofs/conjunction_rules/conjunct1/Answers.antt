@@ -1,4 +1,4 @@
-use Rattle.std.proofs.Common.{Option, ◌∙◌, refl, sym, ap}
+use Rattle.std.proofs.Common.{Option, ◌∙◌, false, refl, sym, ap}
 use Rattle.hol_model.specs.declared.fault.Fault.TheVariants.{BadShape}
 use Rattle.hol_model.specs.Terms.NamedTerm.{NamedTerm}
 use Rattle.hol_model.specs.Terms.Nameless.{image}
@@ -9,7 +9,7 @@ use Rattle.hol_prelude.specs.Prelude.{p, q}
 use Rattle.hol_equal.proofs.CutLemmas.{shows-itself}
 use Rattle.hol_bool.proofs.RuleAnswers.{answered-one, leads-p_q, roomy-fits}
 use Rattle.hol_bool.proofs.InferredRules.{infers_conjunct1}
-use Rattle.hol_bool.proofs.PreludeSteps.{p_q-known}
+use Rattle.hol_bool.proofs.PreludeSteps.{where-no-room}
 use Rattle.hol_bool.proofs.Passing.{unchanged}
 use Rattle.hol_bool.proofs.conjunction_rules.conjunct1.Goals as goal
 
@@ -20,25 +20,30 @@ returns-clause-outcome c =
     let a = c.in-Some.sides.left.now in
     let b = c.in-Some.sides.right.now in
     let parts = c.in-Some.ensures.parts in
-    answered-one c.by_theorem.result premise c.in-Some.sides.left.now (conjunct1_outcome premise)
+    answered-one c.by_leading_theorem.result premise c.in-Some.sides.left.now (conjunct1_outcome premise)
     (ap (λ (o : Option (NamedTerm × NamedTerm)). given o BadShape (λ sides. stated (images premise) sides.0)) (sym c.in-Some.ensures.sides))
-    (λ room whole part. c.by_theorem.ensures.derives (images premise) (image premise.conclusion) room
+    (λ room whole part. c.by_leading_theorem.ensures.derives (images premise) (image premise.conclusion) room
     (leads-p_q theory 13 (conjunction p q) p a b c.deref.result.now refl refl parts.left_formula parts.right_formula
     (c.deref.ensures.value ∙ c.in_ok-terms.ensures.ok) room (image premise.conclusion) (image c.in-Some.sides.left.now) (ap image parts.is) refl
     (roomy-fits room (image premise.conclusion) whole) (roomy-fits room (image c.in-Some.sides.left.now) part))
     (shows-itself premise))
-    c.by_theorem.ensures.names
+    c.by_leading_theorem.ensures.names
 
 pub returns-clause-inferred : goal.returns-clause-inferred
 returns-clause-inferred c = infers_conjunct1 c.requires.logic c.in-Some.ensures.legal c.in-Some.ensures.formula (returns-clause-outcome c)
 
-pub by_theorem-requires-clause-known : goal.by_theorem-requires-clause-known
-by_theorem-requires-clause-known c =
+pub by_leading_theorem-requires-clause-leads : goal.by_leading_theorem-requires-clause-leads
+by_leading_theorem-requires-clause-leads c =
+    let premise = c.args.premise.now.theorem in
+    let a = c.in-Some.sides.left.now in
+    let b = c.in-Some.sides.right.now in
     let parts = c.in-Some.ensures.parts in
-    p_q-known c.args.recorder.now.theory c.in-Some.sides.left.now c.in-Some.sides.right.now c.deref.result.now (c.deref.ensures.value ∙ c.in_ok-terms.ensures.ok) parts.left_formula parts.right_formula
+    leads-p_q c.args.recorder.now.theory 13 (conjunction p q) p a b c.deref.result.now refl refl parts.left_formula parts.right_formula
+    (c.deref.ensures.value ∙ c.in_ok-terms.ensures.ok) false (image premise.conclusion) (image a) (ap image parts.is) refl
+    (where-no-room (image premise.conclusion)) (where-no-room (image a))
 
-pub by_theorem-requires-clause-stated : goal.by_theorem-requires-clause-stated
-by_theorem-requires-clause-stated c =
+pub by_leading_theorem-requires-clause-stated : goal.by_leading_theorem-requires-clause-stated
+by_leading_theorem-requires-clause-stated c =
     c.in-Some.ensures.parts.left_formula
 
 pub returns-in_err-terms-clause-continues : goal.returns-in_err-terms-clause-continues

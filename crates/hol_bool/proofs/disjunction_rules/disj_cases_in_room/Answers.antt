@@ -1,4 +1,4 @@
-use Rattle.std.proofs.Common.{◌≡◌, ◌∙◌, refl, subst}
+use Rattle.std.proofs.Common.{◌≡◌, ◌∙◌, false, refl, sym, subst}
 use Rattle.hol_model.specs.Terms.Nameless.{const, image}
 use Rattle.hol_model.specs.Terms.NamedTerm.{NamedTerm}
 use Rattle.hol_model.specs.Logic.Logic.{binary, implies_name}
@@ -8,7 +8,7 @@ use Rattle.hol_bool.specs.Disjunctions.{other_case, both_cases}
 use Rattle.hol_bool.specs.PreludeInstances.{LeadsTo, at_p_q_r}
 use Rattle.hol_bool.proofs.RoomLemmas.{connected-is, connected-past, connected-typed, fits-left}
 use Rattle.hol_bool.proofs.DisjunctionAnswers.{other-typed, cases-leads}
-use Rattle.hol_bool.proofs.PreludeSteps.{p_q_r-known}
+use Rattle.hol_bool.proofs.PreludeSteps.{where-no-room}
 use Rattle.hol_bool.proofs.FormulaLemmas.{connects, made-formula}
 use Rattle.hol_equal.specs.Formulas.{IsFormula}
 use Rattle.hol_bool.proofs.Passing.{unchanged}
@@ -48,19 +48,28 @@ returns-clause-derives c h room shown whole stated =
     connected-is c.in_ok-stated.stated implies_name (implication p r) (other_case q r) c.in_ok-case.case c.args.rest.now (connected-typed implies_name p r c.requires.left.typed c.requires.r.typed)
     (other-typed q r c.requires.right.typed c.requires.r.typed) case_is c.requires.rest c.in_ok-stated.ensures in
     let terms_are : terms ≡ at_p_q_r p q r = c.deref.ensures.value ∙ c.in_ok-terms.ensures.ok in
-    subst (λ (s : NamedTerm). LeadsTo theory 29 terms room premise (image s) → DerivesIf room c.by_theorem.result h (image s)) stated_is
-    (λ leads. c.by_theorem.ensures.derives h premise room leads shown)
+    subst (λ (s : NamedTerm). LeadsTo theory 29 terms room premise (image s) → DerivesIf room c.by_leading_theorem.result h (image s)) stated_is
+    (λ leads. c.by_leading_theorem.ensures.derives h premise room leads shown)
     (cases-leads theory p q r terms c.requires.left c.requires.right c.requires.r terms_are room whole stated)
 
-pub by_theorem-requires-clause-known : goal.by_theorem-requires-clause-known
-by_theorem-requires-clause-known c =
+pub by_leading_theorem-requires-clause-leads : goal.by_leading_theorem-requires-clause-leads
+by_leading_theorem-requires-clause-leads c =
+    let theory = c.args.recorder.now.theory in
     let p = c.args.sides.left.now in
     let q = c.args.sides.right.now in
     let r = c.args.r.now in
-    p_q_r-known c.args.recorder.now.theory p q r c.deref.result.now (c.deref.ensures.value ∙ c.in_ok-terms.ensures.ok) c.requires.left c.requires.right c.requires.r
+    let terms = c.deref.result.now in
+    let case_is = connected-is c.in_ok-case.case implies_name p r p r c.requires.left.typed c.requires.r.typed refl refl c.in_ok-case.ensures in
+    let stated_is : c.in_ok-stated.stated ≡ both_cases p q r =
+    connected-is c.in_ok-stated.stated implies_name (implication p r) (other_case q r) c.in_ok-case.case c.args.rest.now (connected-typed implies_name p r c.requires.left.typed c.requires.r.typed)
+    (other-typed q r c.requires.right.typed c.requires.r.typed) case_is c.requires.rest c.in_ok-stated.ensures in
+    let terms_are : terms ≡ at_p_q_r p q r = c.deref.ensures.value ∙ c.in_ok-terms.ensures.ok in
+    subst (λ (s : NamedTerm). LeadsTo theory 29 terms false (image s) (image c.in_ok-stated.stated)) (sym c.requires.whole)
+    (subst (λ (s : NamedTerm). LeadsTo theory 29 terms false (image (disjunction p q)) (image s)) (sym stated_is)
+    (cases-leads theory p q r terms c.requires.left c.requires.right c.requires.r terms_are false (where-no-room (image (disjunction p q))) (where-no-room (image (both_cases p q r)))))
 
-pub by_theorem-requires-clause-stated : goal.by_theorem-requires-clause-stated
-by_theorem-requires-clause-stated c =
+pub by_leading_theorem-requires-clause-stated : goal.by_leading_theorem-requires-clause-stated
+by_leading_theorem-requires-clause-stated c =
     let journal = c.args.recorder.now in
     let p = c.args.sides.left.now in
     let q = c.args.sides.right.now in

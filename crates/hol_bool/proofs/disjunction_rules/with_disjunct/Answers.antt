@@ -1,4 +1,4 @@
-use Rattle.std.proofs.Common.{◌≡◌, ◌∙◌, List, IfOk, refl, sym, subst}
+use Rattle.std.proofs.Common.{◌≡◌, ◌∙◌, List, IfOk, false, refl, sym, subst}
 use Rattle.hol_model.specs.Terms.NamedTerm.{NamedTerm}
 use Rattle.hol_model.specs.Terms.Nameless.{image}
 use Rattle.hol_model.specs.Logic.Logic.{or_name}
@@ -9,7 +9,6 @@ use Rattle.hol_bool.specs.PreludeInstances.{LeadsTo, at_p_q}
 use Rattle.hol_equal.proofs.CutLemmas.{shows-itself}
 use Rattle.hol_equal.proofs.StepLemmas.{passed_on}
 use Rattle.hol_bool.proofs.RoomLemmas.{connected-is, connected-past}
-use Rattle.hol_bool.proofs.PreludeSteps.{p_q-known}
 use Rattle.hol_bool.proofs.FormulaLemmas.{connects, made-formula}
 use Rattle.hol_bool.proofs.Passing.{unchanged}
 use Rattle.hol_bool.proofs.disjunction_rules.with_disjunct.Goals as goal
@@ -31,8 +30,8 @@ returns-clause-derives c room leads =
     let terms = c.deref.result.now in
     let stated_is = connected-is c.in_ok-stated.stated or_name p q p q c.requires.left.typed c.requires.right.typed refl refl c.in_ok-stated.ensures in
     let terms_are : terms ≡ at_p_q p q = c.deref.ensures.value ∙ c.in_ok-terms.ensures.ok in
-    subst (λ (s : NamedTerm). LeadsTo theory number terms room (image premise.conclusion) (image s) → DerivesIf room c.by_theorem.result (images premise) (image s)) stated_is
-    (λ there. c.by_theorem.ensures.derives (images premise) (image premise.conclusion) room there (shows-itself premise))
+    subst (λ (s : NamedTerm). LeadsTo theory number terms room (image premise.conclusion) (image s) → DerivesIf room c.by_leading_theorem.result (images premise) (image s)) stated_is
+    (λ there. c.by_leading_theorem.ensures.derives (images premise) (image premise.conclusion) room there (shows-itself premise))
     (subst (λ (l : List (NamedTerm × NamedTerm)). LeadsTo theory number l room (image premise.conclusion) (image (disjunction p q))) (sym terms_are) leads)
 
 pub returns-clause-names : goal.returns-clause-names
@@ -40,14 +39,23 @@ returns-clause-names c =
     let p = c.args.p.now in
     let q = c.args.q.now in
     let stated_is = connected-is c.in_ok-stated.stated or_name p q p q c.requires.left.typed c.requires.right.typed refl refl c.in_ok-stated.ensures in
-    subst (λ (s : NamedTerm). IfOk c.by_theorem.result (λ made. made.theorem.conclusion ≡ s)) stated_is c.by_theorem.ensures.names
+    subst (λ (s : NamedTerm). IfOk c.by_leading_theorem.result (λ made. made.theorem.conclusion ≡ s)) stated_is c.by_leading_theorem.ensures.names
 
-pub by_theorem-requires-clause-known : goal.by_theorem-requires-clause-known
-by_theorem-requires-clause-known c =
-    p_q-known c.args.recorder.now.theory c.args.p.now c.args.q.now c.deref.result.now (c.deref.ensures.value ∙ c.in_ok-terms.ensures.ok) c.requires.left c.requires.right
+pub by_leading_theorem-requires-clause-leads : goal.by_leading_theorem-requires-clause-leads
+by_leading_theorem-requires-clause-leads c =
+    let theory = c.args.recorder.now.theory in
+    let number = c.args.number in
+    let p = c.args.p.now in
+    let q = c.args.q.now in
+    let premise = c.args.premise.now.theorem in
+    let terms = c.deref.result.now in
+    let stated_is = connected-is c.in_ok-stated.stated or_name p q p q c.requires.left.typed c.requires.right.typed refl refl c.in_ok-stated.ensures in
+    let terms_are : terms ≡ at_p_q p q = c.deref.ensures.value ∙ c.in_ok-terms.ensures.ok in
+    subst (λ (s : NamedTerm). LeadsTo theory number terms false (image premise.conclusion) (image s)) (sym stated_is)
+    (subst (λ (l : List (NamedTerm × NamedTerm)). LeadsTo theory number l false (image premise.conclusion) (image (disjunction p q))) (sym terms_are) c.requires.leads)
 
-pub by_theorem-requires-clause-stated : goal.by_theorem-requires-clause-stated
-by_theorem-requires-clause-stated c =
+pub by_leading_theorem-requires-clause-stated : goal.by_leading_theorem-requires-clause-stated
+by_leading_theorem-requires-clause-stated c =
     let journal = c.args.recorder.now in
     let p = c.args.p.now in
     let q = c.args.q.now in

@@ -1,4 +1,4 @@
-use Rattle.std.proofs.Common.{◌≡◌, ◌∙◌, [], ◌∷◌, ◌++◌, List, Ok, sym, subst, ap}
+use Rattle.std.proofs.Common.{◌≡◌, ◌∙◌, [], ◌∷◌, ◌++◌, List, Ok, false, sym, subst, ap}
 use Rattle.hol_model.specs.Terms.HolType.{bool_type}
 use Rattle.hol_model.specs.Terms.Nameless.{Nameless, image}
 use Rattle.hol_model.specs.Terms.Measures.{nameless_within_limits}
@@ -7,8 +7,11 @@ use Rattle.hol_model.specs.Logic.Logic as nameless
 use Rattle.hol_equal.specs.Room.{FitsIf}
 use Rattle.hol_equal.specs.Sequents.{Shows}
 use Rattle.hol_equal.proofs.StepLemmas.{still_made, passed_on}
-use Rattle.hol_equal.proofs.CutLemmas.{derives-where}
-use Rattle.hol_equal.proofs.LemmaLemmas.{derives-same}
+use Rattle.hol_model.specs.Derived.DerivedRules.{images}
+use Rattle.hol_equal.proofs.CutLemmas.{derives-where, shows-itself}
+use Rattle.hol_equal.proofs.LemmaLemmas.{derives-same, premise-fits}
+use Rattle.hol_bool.proofs.ConjunctionAnswers.{conj_equation}
+use Rattle.hol_bool.proofs.PreludeSteps.{where-no-room}
 use Rattle.hol_bool.proofs.RoomLemmas.{fits-within}
 use Rattle.hol_bool.proofs.ImplicationAnswers.{disch-both-fits, disch-conj-fits, disch-absorbed-fits, absorbed-set}
 use Rattle.hol_bool.proofs.implication_rules.conj_absorption.Goals as goal
@@ -27,10 +30,23 @@ conclusion_of-q-requires c =
 pub returns-in_err-first-clause-derives : goal.returns-in_err-first-clause-derives
 returns-in_err-first-clause-derives c h q room shown fits =
     let p = image c.args.p.now in
-    let joined = c.in_ok-joined.ensures.derives (p ∷ []) h p q room (c.in_ok-assumed.ensures.gives c.requires.formula.known) shown (disch-conj-fits room p q fits) in
-    let both_is : image c.conclusion_of-both.result.now ≡ nameless.conjunction p q = ap image c.conclusion_of-both.ensures.value ∙ joined.concludes in
+    let q_is : image c.conclusion_of-q.result.now ≡ q = ap image c.conclusion_of-q.ensures.value ∙ shown.concludes in
     rw (passed_on c.from_residual-in_err-first.result c.in_err-first.field-0.0 c.from_residual-in_err-first.ensures.1)
-    (c.in_err-first.ensures.derives room (subst (λ (t : Nameless). FitsIf room t) (sym both_is) (disch-both-fits room p q fits)))
+    (c.in_err-first.ensures.derives room (subst (λ (t : Nameless). FitsIf room (nameless.conjunction p t)) (sym q_is) (disch-both-fits room p q fits)))
+
+pub deduct_antisym_known-requires-clause-fits : goal.deduct_antisym_known-requires-clause-fits
+deduct_antisym_known-requires-clause-fits c =
+    let p = image c.args.p.now in
+    let premise = c.args.premise.now.theorem in
+    let q = image premise.conclusion in
+    let conj = nameless.conjunction p q in
+    let joined = c.in_ok-joined.ensures.derives (p ∷ []) (images premise) p q false (c.in_ok-assumed.ensures.gives c.requires.formula.known) (shows-itself premise)
+    (where-no-room (conj_equation p q)) in
+    let q_is : image c.conclusion_of-q.result.now ≡ q = ap image c.conclusion_of-q.ensures.value in
+    let first : Shows c.in_ok-first.first.theorem (conj ∷ []) p =
+    subst (λ (t : Nameless). Shows c.in_ok-first.first.theorem (nameless.conjunction p t ∷ []) p) q_is
+    (c.in_ok-first.ensures.derives false (where-no-room (nameless.conjunction p (image c.conclusion_of-q.result.now)))) in
+    premise-fits c.in_ok-joined.joined.theorem c.in_ok-first.first.theorem conj p joined.concludes first
 
 pub returns-clause-derives : goal.returns-clause-derives
 returns-clause-derives c h q room shown fits =
@@ -38,11 +54,11 @@ returns-clause-derives c h q room shown fits =
     let conj = nameless.conjunction p q in
     let whole = nameless_equation bool_type conj p in
     let joined = c.in_ok-joined.ensures.derives (p ∷ []) h p q room (c.in_ok-assumed.ensures.gives c.requires.formula.known) shown (disch-conj-fits room p q fits) in
-    let both_is : image c.conclusion_of-both.result.now ≡ conj = ap image c.conclusion_of-both.ensures.value ∙ joined.concludes in
+    let q_is : image c.conclusion_of-q.result.now ≡ q = ap image c.conclusion_of-q.ensures.value ∙ shown.concludes in
     let first : Shows c.in_ok-first.first.theorem (conj ∷ []) p =
-    subst (λ (t : Nameless). Shows c.in_ok-first.first.theorem (t ∷ []) p) both_is
-    (c.in_ok-first.ensures.derives room (subst (λ (t : Nameless). FitsIf room t) (sym both_is) (disch-both-fits room p q fits))) in
+    subst (λ (t : Nameless). Shows c.in_ok-first.first.theorem (nameless.conjunction p t ∷ []) p) q_is
+    (c.in_ok-first.ensures.derives room (subst (λ (t : Nameless). FitsIf room (nameless.conjunction p t)) (sym q_is) (disch-both-fits room p q fits))) in
     let left : List Nameless = without p ((p ∷ []) ++ h) ++ without conj (conj ∷ []) in
-    derives-where (nameless_within_limits whole) room c.deduct_antisym.result (without p h) whole (fits-within room whole (disch-absorbed-fits room p q fits))
-    (derives-same (nameless_within_limits whole) c.deduct_antisym.result left (without p h) whole (absorbed-set h p conj)
-    (c.deduct_antisym.ensures.derives ((p ∷ []) ++ h) (conj ∷ []) conj p joined first))
+    derives-where (nameless_within_limits whole) room c.deduct_antisym_known.result (without p h) whole (fits-within room whole (disch-absorbed-fits room p q fits))
+    (derives-same (nameless_within_limits whole) c.deduct_antisym_known.result left (without p h) whole (absorbed-set h p conj)
+    (c.deduct_antisym_known.ensures.derives ((p ∷ []) ++ h) (conj ∷ []) conj p joined first))

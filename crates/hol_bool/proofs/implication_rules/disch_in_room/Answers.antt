@@ -1,4 +1,4 @@
-use Rattle.std.proofs.Common.{◌≡◌, ◌∙◌, IfOk, refl, sym, subst, ap}
+use Rattle.std.proofs.Common.{◌≡◌, ◌∙◌, IfOk, false, refl, sym, subst, ap}
 use Rattle.hol_model.specs.Terms.HolType.{bool_type}
 use Rattle.hol_model.specs.Terms.NamedTerm.{NamedTerm}
 use Rattle.hol_model.specs.Terms.Nameless.{Nameless, image}
@@ -12,7 +12,9 @@ use Rattle.hol_equal.specs.Sequents.{Shows, DerivesIf}
 use Rattle.hol_bool.specs.PreludeInstances.{LeadsTo, at_p_q}
 use Rattle.hol_bool.proofs.RoomLemmas.{connected-is, connected-past}
 use Rattle.hol_bool.proofs.ImplicationAnswers.{disch_equation, disch-implication-fits, disch-leads}
-use Rattle.hol_bool.proofs.PreludeSteps.{p_q-known, still_known}
+use Rattle.hol_model.specs.Derived.DerivedRules.{images}
+use Rattle.hol_equal.proofs.CutLemmas.{shows-itself}
+use Rattle.hol_bool.proofs.PreludeSteps.{where-no-room}
 use Rattle.hol_bool.proofs.FormulaLemmas.{connects, made-formula, formula_in}
 use Rattle.hol_bool.proofs.Passing.{unchanged}
 use Rattle.hol_equal.proofs.StepLemmas.{passed_on}
@@ -33,7 +35,7 @@ returns-clause-names c =
     let b = c.args.premise.now.theorem.conclusion in
     let concluded = c.conclusion_of-q.ensures in
     let stated_is = connected-is c.in_ok-stated.stated implies_name a b a c.conclusion_of-q.result.now c.requires.formula.typed concluded.formula.typed refl concluded.value c.in_ok-stated.ensures in
-    subst (λ (t : NamedTerm). IfOk c.by_theorem.result (λ made. made.theorem.conclusion ≡ t)) stated_is c.by_theorem.ensures.names
+    subst (λ (t : NamedTerm). IfOk c.by_leading_theorem.result (λ made. made.theorem.conclusion ≡ t)) stated_is c.by_leading_theorem.ensures.names
 
 pub returns-clause-derives : goal.returns-clause-derives
 returns-clause-derives c h q room shown fits =
@@ -51,23 +53,30 @@ returns-clause-derives c h q room shown fits =
     let equation = subst (λ (t : Nameless).
     Shows c.in_ok-equation.equation.theorem left (nameless_equation bool_type (nameless.conjunction (image a) t) (image a)))
     (sym shown.concludes) (c.in_ok-equation.ensures.derives h q room shown fits) in
-    let answer : DerivesIf room c.by_theorem.result left (nameless.implication (image a) (image b)) =
-    subst (λ (t : NamedTerm). LeadsTo c.conj_absorption.new.recorder.theory 16 terms room from (image t) → DerivesIf room c.by_theorem.result left (image t)) stated_is
-    (λ l. c.by_theorem.ensures.derives left from room l equation) leads in
-    subst (λ (t : Nameless). DerivesIf room c.by_theorem.result left (nameless.implication (image a) t)) shown.concludes answer
+    let answer : DerivesIf room c.by_leading_theorem.result left (nameless.implication (image a) (image b)) =
+    subst (λ (t : NamedTerm). LeadsTo c.conj_absorption.new.recorder.theory 16 terms room from (image t) → DerivesIf room c.by_leading_theorem.result left (image t)) stated_is
+    (λ l. c.by_leading_theorem.ensures.derives left from room l equation) leads in
+    subst (λ (t : Nameless). DerivesIf room c.by_leading_theorem.result left (nameless.implication (image a) t)) shown.concludes answer
 
-pub by_theorem-requires-clause-known : goal.by_theorem-requires-clause-known
-by_theorem-requires-clause-known c =
+pub by_leading_theorem-requires-clause-leads : goal.by_leading_theorem-requires-clause-leads
+by_leading_theorem-requires-clause-leads c =
     let a = c.args.p.now in
-    let b = c.args.premise.now.theorem.conclusion in
+    let premise = c.args.premise.now.theorem in
+    let b = premise.conclusion in
     let concluded = c.conclusion_of-q.ensures in
-    let theory = c.args.recorder.now.theory in
-    let terms_are : c.deref.result.now ≡ at_p_q a b = c.deref.ensures.value ∙ c.in_ok-terms.ensures.ok ∙ ap (at_p_q a) concluded.value in
-    still_known c.conj_absorption.new.recorder.theory theory c.deref.result.now c.in_ok-equation.ensures.continues.theory
-    (p_q-known theory a b c.deref.result.now terms_are c.requires.formula concluded.formula)
+    let terms = c.deref.result.now in
+    let theory = c.conj_absorption.new.recorder.theory in
+    let stated_is = connected-is c.in_ok-stated.stated implies_name a b a c.conclusion_of-q.result.now c.requires.formula.typed concluded.formula.typed refl concluded.value c.in_ok-stated.ensures in
+    let terms_are : terms ≡ at_p_q a b = c.deref.ensures.value ∙ c.in_ok-terms.ensures.ok ∙ ap (at_p_q a) concluded.value in
+    let from = nameless_equation bool_type (nameless.conjunction (image a) (image b)) (image a) in
+    let equation = c.in_ok-equation.ensures.derives (images premise) (image b) false (shows-itself premise) (where-no-room (disch_equation (image a) (image b))) in
+    let leads = subst (λ (t : Theory). LeadsTo t 16 terms false from (image (implication a b))) (sym c.in_ok-equation.ensures.continues.theory)
+    (disch-leads c.args.recorder.now.theory a b terms c.requires.formula concluded.formula terms_are false (where-no-room (disch_equation (image a) (image b)))) in
+    subst (λ (t : Nameless). LeadsTo theory 16 terms false t (image c.in_ok-stated.stated)) (sym equation.concludes)
+    (subst (λ (t : NamedTerm). LeadsTo theory 16 terms false from (image t)) (sym stated_is) leads)
 
-pub by_theorem-requires-clause-stated : goal.by_theorem-requires-clause-stated
-by_theorem-requires-clause-stated c =
+pub by_leading_theorem-requires-clause-stated : goal.by_leading_theorem-requires-clause-stated
+by_leading_theorem-requires-clause-stated c =
     let journal = c.args.recorder.now in
     let a = c.args.p.now in
     let b = c.args.premise.now.theorem.conclusion in

@@ -1,4 +1,4 @@
-use Rattle.std.proofs.Common.{◌≡◌, [], ◌∷◌, true, Option, sym, subst, ap, refl, inl}
+use Rattle.std.proofs.Common.{◌≡◌, ◌∷◌, true, Option, sym, subst, ap, refl, inl}
 use Rattle.hol_model.specs.declared.fault.Fault.TheVariants.{BadShape}
 use Rattle.hol_model.specs.Terms.NamedTerm.{NamedTerm}
 use Rattle.hol_model.specs.Terms.Nameless.{Nameless, image}
@@ -19,18 +19,14 @@ returns-clause-outcome c =
     let b = c.in-Some.sides.right.now in
     let parts = c.in-Some.ensures.parts in
     let wanted = image a ∷ images premise in
-    answered c.mp_in_room.result (terms_of_theorem premise) wanted wanted b (undisch_outcome premise)
+    answered c.undisch_in_room.result (terms_of_theorem premise) wanted wanted b (undisch_outcome premise)
     (ap (λ (o : Option (NamedTerm × NamedTerm)). given o BadShape (λ sides. stated (image sides.0 ∷ images premise) sides.1)) (sym c.in-Some.ensures.sides))
     (record { to = λ x m. m; back = λ x m. m })
-    (λ room roomy. c.mp_in_room.ensures.derives (images premise) (image a ∷ []) (image a) room
+    (λ room roomy. c.undisch_in_room.ensures.derives (images premise) room
     (subst (λ (t : Nameless). Shows premise (images premise) t) (ap image parts.is) (shows-itself premise))
-    (c.in_ok-assumed.ensures.gives parts.left_formula.known)
     (mp-equation-fits room (image a) (image b) (subst (λ (t : Nameless). room ≡ true → IsSized 1000 5000 t) (ap image parts.is) (roomy (image premise.conclusion) (inl refl)))
     (stated-roomy room (terms_of_theorem premise) wanted (image b) roomy)))
-    c.mp_in_room.ensures.names
+    c.undisch_in_room.ensures.names
 
 pub returns-clause-inferred : goal.returns-clause-inferred
 returns-clause-inferred c = infers_undisch c.requires.logic c.in-Some.ensures.legal c.in-Some.ensures.formula (returns-clause-outcome c)
-
-pub assume_known-requires : goal.assume_known-requires
-assume_known-requires c = c.in-Some.ensures.parts.left_formula

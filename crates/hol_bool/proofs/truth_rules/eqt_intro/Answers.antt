@@ -1,4 +1,4 @@
-use Rattle.std.proofs.Common.{◌≡◌, ◌∙◌, [], ◌∷◌, Err, refl, ap, subst, IfOk}
+use Rattle.std.proofs.Common.{◌≡◌, ◌∙◌, [], ◌∷◌, Err, false, refl, sym, ap, subst, IfOk}
 use Rattle.hol_model.specs.Terms.HolType.{bool_type}
 use Rattle.hol_model.specs.Terms.NamedTerm.{NamedTerm, equation}
 use Rattle.hol_model.specs.Terms.Nameless.{image}
@@ -13,7 +13,7 @@ use Rattle.hol_bool.proofs.RoomLemmas.{equation-is, equation-past}
 use Rattle.hol_bool.proofs.RuleAnswers.{answered-one, leads-p, roomy-fits}
 use Rattle.hol_bool.proofs.TruthAnswers.{truth-fits}
 use Rattle.hol_bool.proofs.InferredRules.{infers_eqt_intro}
-use Rattle.hol_bool.proofs.PreludeSteps.{p-known}
+use Rattle.hol_bool.proofs.PreludeSteps.{where-no-room}
 use Rattle.hol_bool.proofs.FormulaLemmas.{equation-formula, truth_is_formula, made-formula}
 use Rattle.hol_bool.proofs.Passing.{unchanged}
 use Rattle.hol_equal.proofs.StepLemmas.{passed_on}
@@ -44,27 +44,35 @@ returns-clause-outcome c =
     let stated_is : c.in_ok-stated.stated ≡ equation a true_term =
     equation-is c.in_ok-stated.stated a true_term c.conclusion_of-conclusion.result.now c.in_ok-truth.truth formula.typed refl concludes c.in_ok-truth.ensures.ok c.in_ok-stated.ensures in
     let image_is = image-equation a true_term bool_type formula.typed in
-    answered-one c.by_theorem.result premise (equation a true_term) (eqt_intro_outcome premise) refl
+    answered-one c.by_leading_theorem.result premise (equation a true_term) (eqt_intro_outcome premise) refl
     (λ room whole part.
-    subst (λ (s : NamedTerm). LeadsTo theory 9 c.deref.result.now room (image a) (image s) → DerivesIf room c.by_theorem.result (images premise) (image s)) stated_is
-    (λ leads. c.by_theorem.ensures.derives (images premise) (image a) room leads (shows-itself premise))
+    subst (λ (s : NamedTerm). LeadsTo theory 9 c.deref.result.now room (image a) (image s) → DerivesIf room c.by_leading_theorem.result (images premise) (image s)) stated_is
+    (λ leads. c.by_leading_theorem.ensures.derives (images premise) (image a) room leads (shows-itself premise))
     (leads-p theory 9 p (equation p true_term) a c.deref.result.now refl refl formula
     (c.deref.ensures.value ∙ c.in_ok-terms.ensures.ok ∙ ap (λ (t : NamedTerm). (t, p) ∷ []) concludes) room (image a)
     (image (equation a true_term)) refl image_is
     (roomy-fits room (image a) whole) (roomy-fits room (image (equation a true_term)) part)))
-    (subst (λ (s : NamedTerm). IfOk c.by_theorem.result (λ made. made.theorem.conclusion ≡ s)) stated_is c.by_theorem.ensures.names)
+    (subst (λ (s : NamedTerm). IfOk c.by_leading_theorem.result (λ made. made.theorem.conclusion ≡ s)) stated_is c.by_leading_theorem.ensures.names)
 
 pub returns-clause-inferred : goal.returns-clause-inferred
 returns-clause-inferred c = infers_eqt_intro c.conclusion_of-conclusion.ensures.formula (returns-clause-outcome c)
 
-pub by_theorem-requires-clause-known : goal.by_theorem-requires-clause-known
-by_theorem-requires-clause-known c =
+pub by_leading_theorem-requires-clause-leads : goal.by_leading_theorem-requires-clause-leads
+by_leading_theorem-requires-clause-leads c =
+    let theory = c.args.recorder.now.theory in
+    let a = c.args.premise.now.theorem.conclusion in
     let concluded = c.conclusion_of-conclusion.ensures in
-    p-known c.args.recorder.now.theory c.args.premise.now.theorem.conclusion c.deref.result.now
-    (c.deref.ensures.value ∙ c.in_ok-terms.ensures.ok ∙ ap (λ (t : NamedTerm). (t, p) ∷ []) concluded.value) concluded.formula
+    let stated_is : c.in_ok-stated.stated ≡ equation a true_term =
+    equation-is c.in_ok-stated.stated a true_term c.conclusion_of-conclusion.result.now c.in_ok-truth.truth concluded.formula.typed refl
+    concluded.value c.in_ok-truth.ensures.ok c.in_ok-stated.ensures in
+    subst (λ (s : NamedTerm). LeadsTo theory 9 c.deref.result.now false (image a) (image s)) (sym stated_is)
+    (leads-p theory 9 p (equation p true_term) a c.deref.result.now refl refl concluded.formula
+    (c.deref.ensures.value ∙ c.in_ok-terms.ensures.ok ∙ ap (λ (t : NamedTerm). (t, p) ∷ []) concluded.value) false (image a)
+    (image (equation a true_term)) refl (image-equation a true_term bool_type concluded.formula.typed)
+    (where-no-room (image a)) (where-no-room (image (equation a true_term))))
 
-pub by_theorem-requires-clause-stated : goal.by_theorem-requires-clause-stated
-by_theorem-requires-clause-stated c =
+pub by_leading_theorem-requires-clause-stated : goal.by_leading_theorem-requires-clause-stated
+by_leading_theorem-requires-clause-stated c =
     let journal = c.args.recorder.now in
     let a = c.args.premise.now.theorem.conclusion in
     let concluded = c.conclusion_of-conclusion.ensures in

@@ -1,0 +1,115 @@
+use Rattle.std.proofs.Common.{◌≡◌, ◌∙◌, [], ◌∷◌, Err, false, sym, subst, ap, refl}
+use Rattle.hol_model.specs.Terms.HolType.{bool_type}
+use Rattle.hol_model.specs.Terms.NamedTerm.{NamedTerm, equation}
+use Rattle.hol_model.specs.Terms.Nameless.{Nameless, image}
+use Rattle.hol_model.specs.Logic.Derivable.{nameless_equation}
+use Rattle.hol_model.specs.Logic.Logic as nameless
+use Rattle.hol_model.proofs.Terms.Images.{image-equation}
+use Rattle.hol_equal.specs.Room.{FitsIf}
+use Rattle.hol_equal.specs.Sequents.{Shows, DerivesIf}
+use Rattle.hol_bool.specs.PreludeInstances.{LeadsTo, at_p_q}
+use Rattle.hol_equal.proofs.StepLemmas.{equation-fits, passed_on}
+use Rattle.hol_equal.proofs.CutLemmas.{right-names, given-derives}
+use Rattle.hol_bool.proofs.RoomLemmas.{equation-is, equation-past}
+use Rattle.hol_bool.proofs.ConjunctionAnswers.{mp_equation, mp-leads}
+use Rattle.hol_bool.proofs.PreludeSteps.{where-no-room}
+use Rattle.hol_bool.proofs.FormulaLemmas.{equation-formula, made-formula}
+use Rattle.hol_bool.proofs.Passing.{unchanged}
+use Rattle.hol_bool.proofs.implication_rules.undisch_in_room.Goals as goal
+
+pub returns-in_err-stated-clause-derives : goal.returns-in_err-stated-clause-derives
+returns-in_err-stated-clause-derives c h room shown fits =
+    let whole = c.args.premise.now.theorem.conclusion in
+    let b = c.args.q.now in
+    let zero = c.conclusion_of-whole.ensures in
+    rw (passed_on c.from_residual.result c.in_err-stated.field-0.0 c.from_residual.ensures.1)
+    (equation-past c.in_err-stated.field-0.0 whole b c.conclusion_of-whole.result.now b zero.formula.typed c.requires.sides.right_formula.typed zero.value refl c.in_err-stated.ensures room
+    (subst (λ (u : Nameless). FitsIf room (nameless_equation bool_type u (image b))) (sym shown.concludes) fits))
+
+pub returns-in_err-equation-clause-derives : goal.returns-in_err-equation-clause-derives
+returns-in_err-equation-clause-derives c h room shown fits =
+    let whole = c.args.premise.now.theorem.conclusion in
+    let a = c.args.p.now in
+    let b = c.args.q.now in
+    let zero = c.conclusion_of-whole.ensures in
+    let sides = c.requires.sides in
+    let theory = c.args.recorder.now.theory in
+    let terms = c.deref.result.now in
+    let stated_is = equation-is c.in_ok-stated.stated whole b c.conclusion_of-whole.result.now b zero.formula.typed sides.right_formula.typed zero.value refl c.in_ok-stated.ensures in
+    let terms_are : terms ≡ at_p_q a b = c.deref.ensures.value ∙ c.in_ok-terms.ensures.ok in
+    let leads = mp-leads theory whole a b terms zero.formula sides.left_formula sides.right_formula terms_are (ap image sides.is) room fits in
+    rw (passed_on c.from_residual-in_err-equation.result c.in_err-equation.field-0.0 c.from_residual-in_err-equation.ensures.1)
+    (subst (λ (u : NamedTerm). LeadsTo theory 26 terms room (image a) (image u) → DerivesIf room (Err c.in_err-equation.field-0.0) (image a ∷ []) (image u)) stated_is
+    (λ l. c.in_err-equation.ensures.derives (image a) room l) leads)
+
+pub eq_mp_known-requires-clause-fits : goal.eq_mp_known-requires-clause-fits
+eq_mp_known-requires-clause-fits c =
+    let whole = c.args.premise.now.theorem.conclusion in
+    let b = c.args.q.now in
+    let zero = c.conclusion_of-whole.ensures in
+    let stated_is =
+    equation-is c.in_ok-stated.stated whole b c.conclusion_of-whole.result.now b zero.formula.typed c.requires.sides.right_formula.typed zero.value refl c.in_ok-stated.ensures in
+    equation-fits c.in_ok-equation.equation.theorem c.args.premise.now.theorem b zero.formula.typed (c.in_ok-equation.ensures.names ∙ stated_is)
+
+pub returns-clause-names : goal.returns-clause-names
+returns-clause-names c =
+    let whole = c.args.premise.now.theorem.conclusion in
+    let b = c.args.q.now in
+    let zero = c.conclusion_of-whole.ensures in
+    let stated_is =
+    equation-is c.in_ok-stated.stated whole b c.conclusion_of-whole.result.now b zero.formula.typed c.requires.sides.right_formula.typed zero.value refl c.in_ok-stated.ensures in
+    right-names c.eq_mp_known.result c.in_ok-equation.equation.theorem.conclusion whole b zero.formula.typed (c.in_ok-equation.ensures.names ∙ stated_is) c.eq_mp_known.ensures.names
+
+pub returns-clause-derives : goal.returns-clause-derives
+returns-clause-derives c h room shown fits =
+    let whole = c.args.premise.now.theorem.conclusion in
+    let a = c.args.p.now in
+    let b = c.args.q.now in
+    let zero = c.conclusion_of-whole.ensures in
+    let sides = c.requires.sides in
+    let theory = c.args.recorder.now.theory in
+    let terms = c.deref.result.now in
+    let stated_is = equation-is c.in_ok-stated.stated whole b c.conclusion_of-whole.result.now b zero.formula.typed sides.right_formula.typed zero.value refl c.in_ok-stated.ensures in
+    let terms_are : terms ≡ at_p_q a b = c.deref.ensures.value ∙ c.in_ok-terms.ensures.ok in
+    let leads = mp-leads theory whole a b terms zero.formula sides.left_formula sides.right_formula terms_are (ap image sides.is) room fits in
+    let equation_shown : Shows c.in_ok-equation.equation.theorem (image a ∷ []) (image (equation whole b)) =
+    subst (λ (u : NamedTerm). LeadsTo theory 26 terms room (image a) (image u) → Shows c.in_ok-equation.equation.theorem (image a ∷ []) (image u)) stated_is
+    (λ l. c.in_ok-equation.ensures.derives (image a) room l) leads in
+    let at_images : Shows c.in_ok-equation.equation.theorem (image a ∷ []) (mp_equation (image a) (image b)) =
+    subst (λ (u : Nameless). Shows c.in_ok-equation.equation.theorem (image a ∷ []) u)
+    (image-equation whole b bool_type zero.formula.typed ∙ ap (λ (u : Nameless). nameless_equation bool_type u (image b)) shown.concludes) equation_shown in
+    given-derives room c.eq_mp_known.result (image a ∷ h) (image b)
+    (c.eq_mp_known.ensures.gives (image a ∷ []) h (nameless.implication (image a) (image b)) (image b) at_images shown)
+
+pub leading_theorem-requires-clause-leads : goal.leading_theorem-requires-clause-leads
+leading_theorem-requires-clause-leads c =
+    let whole = c.args.premise.now.theorem.conclusion in
+    let a = c.args.p.now in
+    let b = c.args.q.now in
+    let zero = c.conclusion_of-whole.ensures in
+    let sides = c.requires.sides in
+    let theory = c.args.recorder.now.theory in
+    let terms = c.deref.result.now in
+    let stated_is = equation-is c.in_ok-stated.stated whole b c.conclusion_of-whole.result.now b zero.formula.typed sides.right_formula.typed zero.value refl c.in_ok-stated.ensures in
+    let terms_are : terms ≡ at_p_q a b = c.deref.ensures.value ∙ c.in_ok-terms.ensures.ok in
+    let leads = mp-leads theory whole a b terms zero.formula sides.left_formula sides.right_formula terms_are (ap image sides.is) false (where-no-room (mp_equation (image a) (image b))) in
+    record {
+      premise = image a;
+      leads = subst (λ (u : NamedTerm). LeadsTo theory 26 terms false (image a) (image u)) (sym stated_is) leads;
+    }
+
+pub leading_theorem-requires-clause-stated : goal.leading_theorem-requires-clause-stated
+leading_theorem-requires-clause-stated c =
+    let theory = c.args.recorder.now.theory in
+    let whole = c.args.premise.now.theorem.conclusion in
+    let b = c.args.q.now in
+    let zero = c.conclusion_of-whole.ensures in
+    let second = c.requires.sides.right_formula in
+    let stated_is = equation-is c.in_ok-stated.stated whole b c.conclusion_of-whole.result.now b zero.formula.typed second.typed zero.value refl c.in_ok-stated.ensures in
+    made-formula theory c.in_ok-stated.stated (equation whole b) stated_is (equation-formula theory zero.legal whole b zero.formula second)
+
+pub returns-in_err-stated-clause-continues : goal.returns-in_err-stated-clause-continues
+returns-in_err-stated-clause-continues c = unchanged c.args.recorder.now c.from_residual.result c.from_residual.ensures.0
+
+pub returns-in_err-terms-clause-continues : goal.returns-in_err-terms-clause-continues
+returns-in_err-terms-clause-continues c = unchanged c.args.recorder.now c.from_residual-in_err-terms.result c.from_residual-in_err-terms.ensures.0
