@@ -1,5 +1,5 @@
 -- Types of terms, part by part.
-use Rattle.std.proofs.Common.{◌≡◌, ◌⊎◌, ℕ, ◌<◌, ◌≤◌, List, ◌∷◌, length, Bool, true, false, ◌&&◌, refl, sym, ◌∙◌, ap, subst, inl, inr, Some, Result, Ok, Err, IfOk, IfErr, arith}
+use Rattle.std.proofs.Common.{◌≡◌, ◌⊎◌, ℕ, zero, suc, ◌<◌, ◌≤◌, List, [], ◌∷◌, length, Bool, true, false, ◌&&◌, refl, sym, ◌∙◌, ap, subst, inl, inr, Some, Result, Ok, Err, IfOk, IfErr, arith}
 use Rattle.std.specs.Prelude.{slice_get}
 use Rattle.std.proofs.lemmas.Option.{slice_get-get_or}
 use Rattle.hol_model.specs.declared.fault.Fault.{Fault}
@@ -7,7 +7,7 @@ use Rattle.hol_model.specs.declared.fault.Fault.TheVariants.{Memory, TooLarge}
 use Rattle.hol_model.specs.declared.limits.TheConstants.{TYPE_NODES_LIMIT}
 use Rattle.hol_model.specs.Terms.HolType.{HolType, function_type, codomain_of, type_nodes, bool_type}
 use Rattle.hol_model.specs.Terms.NamedTerm.{type_fits}
-use Rattle.hol_model.specs.Terms.Nameless.{Nameless, free, const, app, lam, nameless_type}
+use Rattle.hol_model.specs.Terms.Nameless.{Nameless, free, const, app, lam, binder_type, nameless_type}
 use Rattle.hol_model.specs.Terms.Measures.{nameless_types_fit}
 use Rattle.hol_model.proofs.Terms.Measures.{past_limit-type}
 use Rattle.hol_model.proofs.Tests.{both}
@@ -15,16 +15,26 @@ use Rattle.hol_check_terms.specs.Growth.{IsLonger}
 use Rattle.hol_check_terms.specs.Terms.{type_at}
 use Rattle.hol_check_terms.specs.Typed.{IsTypedUnderSome}
 use Rattle.hol_check_terms.specs.Typing.{binder_types, AreTypes, AnswersTyping}
-use Rattle.hol_check_terms.specs.declared.typing.Binders.{Binders, Outermost, Under'}
 use Rattle.hol_check_terms.proofs.GrowthLemmas.{type-within, type-grown, type-place, type-there}
 
-pub binders-grown : (types now : List HolType) → IsLonger types now → (binders : Binders) → AreTypes types binders → binder_types now binders ≡ binder_types types binders
-binders-grown types now longer Outermost are = refl
-binders-grown types now longer (Under' ty p outer) are = cc (type-grown types now ty longer are.0, binders-grown types now longer outer are.1)
+pub binders-grown : (types now : List HolType) → IsLonger types now → (binders : List ℕ) → AreTypes types binders → binder_types now binders ≡ binder_types types binders
+binders-grown types now longer [] are = refl
+binders-grown types now longer (ty ∷ outer) are = cc (type-grown types now ty longer are.0, binders-grown types now longer outer are.1)
 
-pub types-still : (types now : List HolType) → IsLonger types now → (binders : Binders) → AreTypes types binders → AreTypes now binders
-types-still types now longer Outermost are = tt
-types-still types now longer (Under' ty p outer) are = (type-within types now ty longer are.0, types-still types now longer outer are.1)
+pub types-still : (types now : List HolType) → IsLonger types now → (binders : List ℕ) → AreTypes types binders → AreTypes now binders
+types-still types now longer [] are = tt
+types-still types now longer (ty ∷ outer) are = (type-within types now ty longer are.0, types-still types now longer outer are.1)
+
+pub binder-found : (types : List HolType) (binders : List ℕ) (index ty : ℕ) → AreTypes types binders → slice_get binders index ≡ Some ty
+    → slice_get types ty ≡ Some (binder_type (binder_types types binders) index)
+binder-found types [] index ty are there = cc
+binder-found types (n ∷ binders) zero ty are there = let same : n ≡ ty = cc in subst (λ m. slice_get types m ≡ Some (type_at types n)) same (slice_get-get_or types n bool_type are.0)
+binder-found types (n ∷ binders) (suc index) ty are there = binder-found types binders index ty are.1 there
+
+pub no-binder : (types : List HolType) (binders : List ℕ) (index : ℕ) → length binders ≤ index → binder_type (binder_types types binders) index ≡ bool_type
+no-binder types [] index past = refl
+no-binder types (n ∷ binders) zero past = absurd (omega arith)
+no-binder types (n ∷ binders) (suc index) past = no-binder types binders index (omega arith)
 
 pub within-fits : (ty : HolType) → type_nodes ty ≤ TYPE_NODES_LIMIT → type_fits ty ≡ true
 within-fits ty within = grind arith

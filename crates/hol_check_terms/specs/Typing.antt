@@ -1,5 +1,5 @@
 -- The types of terms, by numbers.
-use Rattle.std.specs.Prelude.{◌≡◌, ◌⊎◌, ℕ, ◌<◌, List, [], ◌∷◌, true, false, Some, Result, slice_get, length, IfOk, IfErr}
+use Rattle.std.specs.Prelude.{◌≡◌, ◌⊎◌, ℕ, ◌<◌, List, [], ◌∷◌, true, false, Some, Result, slice_get, length, map, IfOk, IfErr}
 use Rattle.hol_model.specs.declared.fault.Fault.{Fault}
 use Rattle.hol_model.specs.declared.fault.Fault.TheVariants.{Memory, TooLarge}
 use Rattle.hol_model.specs.Terms.HolType.{HolType}
@@ -8,25 +8,23 @@ use Rattle.hol_model.specs.Terms.Measures.{nameless_types_fit}
 use Rattle.hol_check_terms.specs.Terms.{TermTable, type_at, term_at}
 use Rattle.hol_check_terms.specs.Entries.{IsEntry}
 use Rattle.hol_check_terms.specs.Typed.{IsTypedUnder}
-use Rattle.hol_check_terms.specs.declared.typing.Binders.{Binders, Outermost, Under'}
 
--- the types of binders, the innermost first
-abbrev pub binder_types : List HolType → Binders → List HolType
-binder_types types Outermost = []
-binder_types types (Under' ty p outer) = type_at types ty ∷ binder_types types outer
+-- the types of binders that have these numbers
+abbrev pub binder_types : List HolType → List ℕ → List HolType
+binder_types types binders = map (type_at types) binders
 
 -- the numbers of binders are those of types
-abbrev pub AreTypes : List HolType → Binders → Type 0
-AreTypes types Outermost = Unit {0}
-AreTypes types (Under' ty p outer) = (ty < length types) × AreTypes types outer
+abbrev pub AreTypes : List HolType → List ℕ → Type 0
+AreTypes types [] = Unit {0}
+AreTypes types (ty ∷ binders) = (ty < length types) × AreTypes types binders
 
 -- the number is that of the type of a term under the binders
-pub record IsKnownTerm (table : TermTable) (binders : Binders) (number ty : ℕ) : Type 0 where
+pub record IsKnownTerm (table : TermTable) (binders : List ℕ) (number ty : ℕ) : Type 0 where
   pub within : number < length table.terms
   pub typed : IsTypedUnder (binder_types table.types binders) table.types (term_at table.terms number) ty
 
 -- each entry is a term and its type under the binders, by their numbers
-pub record AreKnown (table : TermTable) (binders : Binders) (entries : List (ℕ × ℕ)) : Type 0 where
+pub record AreKnown (table : TermTable) (binders : List ℕ) (entries : List (ℕ × ℕ)) : Type 0 where
   pub known : (number ty : ℕ) → IsEntry entries number ty → IsKnownTerm table binders number ty
 
 -- the number is that of the term's type, and the type of each part is within the limit; only memory that is used up, or

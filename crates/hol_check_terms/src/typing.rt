@@ -14,14 +14,7 @@ use crate::terms::{TermShape, Terms};
 use crate::types::TypeShape;
 use hol_model::Fault;
 use indexmap::IndexMap;
-use std::alloc::Global;
-
-/// The types of the binders around a part of a term, the innermost first.
-#[derive(Drop)]
-pub(crate) enum Binders<'a> {
-    Outermost,
-    Under(usize, &'a Binders<'a>),
-}
+use std::alloc::{AllocError, Global};
 
 /// The type of a term, refused where it is past the limits, which count the type of each of its parts. Each part is gone
 /// through once for the binders around it.
@@ -34,16 +27,17 @@ pub fn type_of(alloc: Global, terms: &mut Terms, number: usize) -> Result<usize,
 {
     let (_height, _nodes) = terms.size(number);
     let mut known = IndexMap::new(alloc);
-    type_under(alloc, terms, &mut known, &Binders::Outermost, number)
+    type_under(alloc, terms, &mut known, &[], number)
 }
 
-// The same of a part that stands under binders, with the types that were worked out for parts under these binders.
+// The same of a part that stands under binders of these types, the innermost first, with the types that were worked out for
+// parts under these binders.
 #[cycle(type_under)]
 fn type_under(
     alloc: Global,
     terms: &mut Terms,
     known: &mut IndexMap<usize, usize>,
-    binders: &Binders<'_>,
+    binders: &[usize],
     number: usize,
 ) -> Result<usize, Fault>
     requires number { number < length terms.old.terms }
@@ -99,7 +93,7 @@ fn type_under(
 fn type_of_body(
     alloc: Global,
     terms: &mut Terms,
-    binders: &Binders<'_>,
+    binders: &[usize],
     ty: usize,
     body: usize,
 ) -> Result<usize, Fault>
@@ -109,14 +103,19 @@ fn type_of_body(
     ensures typed { AnswersTyping (type_at terms.old.types ty ∷ binder_types terms.old.types binders.now) (term_at terms.old.terms body) result terms.new.types }
     ensures grows { IsGrown terms.old terms.new }
 {
+    let inside = one_more(alloc, ty, &*binders)?;
     let mut known = IndexMap::new(alloc);
-    type_under(
-        alloc,
-        terms,
-        &mut known,
-        &Binders::Under(ty, &*binders),
-        body,
-    )
+    type_under(alloc, terms, &mut known, &inside, body)
+}
+
+// The numbers of a type and then of the types of the binders around it.
+fn one_more(alloc: Global, ty: usize, binders: &[usize]) -> Result<Vec<usize>, AllocError>
+    ensures { IfOk result (λ inside. inside.items ≡ ty ∷ binders.now) }
+{
+    let mut inside = Vec::new(alloc);
+    inside.push(ty)?;
+    inside.extend_from_slice(binders)?;
+    Ok(inside)
 }
 
 // Keeps the type of a part, for good where it needs no binders, and hands it on.
@@ -141,21 +140,15 @@ fn keep(
 }
 
 // The type of the binder outside so many others, or `bool` where there is none.
-fn binder_at(terms: &mut Terms, binders: &Binders<'_>, index: usize) -> Result<usize, Fault>
+fn binder_at(terms: &mut Terms, binders: &[usize], index: usize) -> Result<usize, Fault>
     requires { AreTypes terms.old.types binders.now }
     ensures number { IfOk result (λ ty. slice_get terms.new.types ty ≡ Some (binder_type (binder_types terms.old.types binders.now) index)) }
     ensures refused { IfErr result (λ fault. fault ≡ Memory) }
     ensures grows { IsGrown terms.old terms.new }
 {
-    match binders {
-        Binders::Outermost => terms.boolean(),
-        Binders::Under(ty, outer) => {
-            if index == 0 {
-                Ok(*ty)
-            } else {
-                binder_at(terms, outer, index - 1)
-            }
-        }
+    match binders.get(index) {
+        Some(ty) => Ok(*ty),
+        None => terms.boolean(),
     }
 }
 
