@@ -56,18 +56,16 @@ fn occurs_in(
         TermShape::Constant(_name, _ty) => Ok(false),
         TermShape::Bound(_index) => Ok(false),
         TermShape::Application(function, argument) => {
-            let found = occurs_in(terms, absent, variable, function)?;
-            if found {
+            let in_function = occurs_in(terms, absent, variable, function)?;
+            if in_function {
                 return Ok(true);
             }
-            match occurs_in(terms, absent, variable, argument) {
-                Ok(found) => note(absent, number, found, false),
-                Err(fault) => Err(fault),
-            }
+            let in_argument = occurs_in(terms, absent, variable, argument)?;
+            note(absent, number, in_argument, false)
         }
-        TermShape::Abstraction(_ty, body) => match occurs_in(terms, absent, variable, body) {
-            Ok(found) => note(absent, number, found, false),
-            Err(fault) => Err(fault),
-        },
+        TermShape::Abstraction(_ty, body) => {
+            let in_body = occurs_in(terms, absent, variable, body)?;
+            note(absent, number, in_body, false)
+        }
     }
 }

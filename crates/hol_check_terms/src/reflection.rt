@@ -50,19 +50,15 @@ fn reflects_in(
             if !first {
                 return Ok(false);
             }
-            match reflects_in(terms, seen, whole, argument) {
-                Ok(second) => note(seen, number, second, true),
-                Err(fault) => Err(fault),
-            }
+            let second = reflects_in(terms, seen, whole, argument)?;
+            note(seen, number, second, true)
         }
         TermShape::Abstraction(ty, body) => {
             if !reflects_type(terms, whole, ty) {
                 return Ok(false);
             }
-            match reflects_in(terms, seen, whole, body) {
-                Ok(inner) => note(seen, number, inner, true),
-                Err(fault) => Err(fault),
-            }
+            let inner = reflects_in(terms, seen, whole, body)?;
+            note(seen, number, inner, true)
         }
     }
 }

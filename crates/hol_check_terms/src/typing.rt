@@ -65,25 +65,17 @@ fn type_under(
                 return Ok(ty);
             }
             let function_ty = type_under(alloc, terms, known, &*binders, function)?;
-            match type_under(alloc, terms, known, &*binders, argument) {
-                Ok(_argument_ty) => match codomain(terms, function_ty) {
-                    Ok(ty) => keep(terms, known, number, ty),
-                    Err(fault) => Err(fault),
-                },
-                Err(fault) => Err(fault),
-            }
+            type_under(alloc, terms, known, &*binders, argument)?;
+            let ty = codomain(terms, function_ty)?;
+            keep(terms, known, number, ty)
         }
         TermShape::Abstraction(ty, body) => {
             if let Some(ty) = recall_type(known, number) {
                 return Ok(ty);
             }
-            match type_of_body(alloc, terms, &*binders, ty, body) {
-                Ok(body_ty) => match terms.function_type(ty, body_ty) {
-                    Ok(whole) => keep(terms, known, number, whole),
-                    Err(fault) => Err(fault),
-                },
-                Err(fault) => Err(fault),
-            }
+            let body_ty = type_of_body(alloc, terms, &*binders, ty, body)?;
+            let whole = terms.function_type(ty, body_ty)?;
+            keep(terms, known, number, whole)
         }
     }
 }

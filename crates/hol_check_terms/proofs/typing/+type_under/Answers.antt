@@ -1,4 +1,5 @@
 use Rattle.std.proofs.Common.{◌<◌, length, sym, subst, Ok, Err, arith}
+use Rattle.std.proofs.lemmas.Result.{err_from_is_err_and}
 use Rattle.hol_check_terms.specs.Terms.{term_at}
 use Rattle.hol_check_terms.specs.Typing.{binder_types, AnswersTyping}
 use Rattle.hol_check_terms.proofs.TableLemmas.{is_within}
@@ -57,29 +58,29 @@ type_under-keep-requires-clause-typed t c =
     let t3 = c.codomain.new.terms in
     let binders = c.args.binders.now in
     let made = application-typed t0 t1 t2 t3.types binders (term_at t0.terms c.args.number) c.args.number c.in-Application.function c.in-Application.argument c.in_ok-function_ty-in-Application.function_ty
-    c.in-Ok._argument_ty (Ok c.in-Ok-codomain.ty)
+    c.in_ok-type_under-in-Application.field-0 (Ok c.in_ok-ty-in-Application.ty)
     c.type_under.ensures.grows c.type_under-in-Application.ensures.grows c.requires.binders c.in-Application.ensures.parts.1 c.requires.number c.in-Application.ensures.shape
-    c.in_ok-function_ty-in-Application.ensures.typed c.in-Ok.ensures.typed c.in-Ok-codomain.ensures.number tt in
-    let grown = IsGrown-trans t0 t1 t3 c.type_under.ensures.grows (IsGrown-trans t1 t2 t3 c.type_under-in-Application.ensures.grows c.in-Ok-codomain.ensures.grows) in
-    typed-under_some t3.types (binder_types t0.types binders) (term_at t3.terms c.args.number) c.in-Ok-codomain.ty
-    (subst (λ u. AnswersTyping (binder_types t0.types binders) u (Ok c.in-Ok-codomain.ty) t3.types) (sym (term-grown t0 t3 c.args.number grown c.requires.number)) made)
+    c.in_ok-function_ty-in-Application.ensures.typed c.in_ok-type_under-in-Application.ensures.typed c.in_ok-ty-in-Application.ensures.number tt in
+    let grown = IsGrown-trans t0 t1 t3 c.type_under.ensures.grows (IsGrown-trans t1 t2 t3 c.type_under-in-Application.ensures.grows c.in_ok-ty-in-Application.ensures.grows) in
+    typed-under_some t3.types (binder_types t0.types binders) (term_at t3.terms c.args.number) c.in_ok-ty-in-Application.ty
+    (subst (λ u. AnswersTyping (binder_types t0.types binders) u (Ok c.in_ok-ty-in-Application.ty) t3.types) (sym (term-grown t0 t3 c.args.number grown c.requires.number)) made)
 
-pub type_under-returns-in-Ok-codomain-clause-typed : goal.type_under-returns-in-Ok-codomain-clause-typed
-type_under-returns-in-Ok-codomain-clause-typed t c =
+pub type_under-returns-in_ok-ty-in-Application-clause-typed : goal.type_under-returns-in_ok-ty-in-Application-clause-typed
+type_under-returns-in_ok-ty-in-Application-clause-typed t c =
     let t0 = c.args.terms.now in
     let t1 = c.type_under.new.terms in
     let t2 = c.type_under-in-Application.new.terms in
     let t3 = c.codomain.new.terms in
     let binders = c.args.binders.now in
     let made = application-typed t0 t1 t2 t3.types binders (term_at t0.terms c.args.number) c.args.number c.in-Application.function c.in-Application.argument c.in_ok-function_ty-in-Application.function_ty
-    c.in-Ok._argument_ty (Ok c.in-Ok-codomain.ty)
+    c.in_ok-type_under-in-Application.field-0 (Ok c.in_ok-ty-in-Application.ty)
     c.type_under.ensures.grows c.type_under-in-Application.ensures.grows c.requires.binders c.in-Application.ensures.parts.1 c.requires.number c.in-Application.ensures.shape
-    c.in_ok-function_ty-in-Application.ensures.typed c.in-Ok.ensures.typed c.in-Ok-codomain.ensures.number tt in
-    typed-kept t3.types c.keep.new.terms.types (binder_types t0.types binders) (term_at t0.terms c.args.number) c.in-Ok-codomain.ty c.keep.result c.keep.ensures.grows.types made
+    c.in_ok-function_ty-in-Application.ensures.typed c.in_ok-type_under-in-Application.ensures.typed c.in_ok-ty-in-Application.ensures.number tt in
+    typed-kept t3.types c.keep.new.terms.types (binder_types t0.types binders) (term_at t0.terms c.args.number) c.in_ok-ty-in-Application.ty c.keep.result c.keep.ensures.grows.types made
     c.keep.ensures.same c.keep.ensures.refused
 
-pub type_under-returns-in-Ok-codomain-clause-known : goal.type_under-returns-in-Ok-codomain-clause-known
-type_under-returns-in-Ok-codomain-clause-known t c =
+pub type_under-returns-in_ok-ty-in-Application-clause-known : goal.type_under-returns-in_ok-ty-in-Application-clause-known
+type_under-returns-in_ok-ty-in-Application-clause-known t c =
     let t0 = c.args.terms.now in
     let t1 = c.type_under.new.terms in
     let t2 = c.type_under-in-Application.new.terms in
@@ -87,97 +88,101 @@ type_under-returns-in-Ok-codomain-clause-known t c =
     let t4 = c.keep.new.terms in
     let binders = c.args.binders.now in
     let made = application-typed t0 t1 t2 t3.types binders (term_at t0.terms c.args.number) c.args.number c.in-Application.function c.in-Application.argument c.in_ok-function_ty-in-Application.function_ty
-    c.in-Ok._argument_ty (Ok c.in-Ok-codomain.ty)
+    c.in_ok-type_under-in-Application.field-0 (Ok c.in_ok-ty-in-Application.ty)
     c.type_under.ensures.grows c.type_under-in-Application.ensures.grows c.requires.binders c.in-Application.ensures.parts.1 c.requires.number c.in-Application.ensures.shape
-    c.in_ok-function_ty-in-Application.ensures.typed c.in-Ok.ensures.typed c.in-Ok-codomain.ensures.number tt in
+    c.in_ok-function_ty-in-Application.ensures.typed c.in_ok-type_under-in-Application.ensures.typed c.in_ok-ty-in-Application.ensures.number tt in
     let grown2 = IsGrown-trans t0 t1 t2 c.type_under.ensures.grows c.type_under-in-Application.ensures.grows in
     let still2 = types-still t0.types t2.types grown2.types binders c.requires.binders in
-    let grown3 = IsGrown-trans t0 t2 t3 grown2 c.in-Ok-codomain.ensures.grows in
-    known-kept t0 t3 t4 binders c.type_under-in-Application.new.known.entries c.keep.new.known.entries c.args.number c.in-Ok-codomain.ty grown3 c.keep.ensures.grows
+    let grown3 = IsGrown-trans t0 t2 t3 grown2 c.in_ok-ty-in-Application.ensures.grows in
+    known-kept t0 t3 t4 binders c.type_under-in-Application.new.known.entries c.keep.new.known.entries c.args.number c.in_ok-ty-in-Application.ty grown3 c.keep.ensures.grows
     (IsGrown-trans t0 t3 t4 grown3 c.keep.ensures.grows) c.requires.binders
     (types-still t0.types t3.types grown3.types binders c.requires.binders) c.requires.number made c.keep.ensures.added
-    (known-grown t2 t3 binders c.type_under-in-Application.new.known.entries c.in-Ok-codomain.ensures.grows still2 c.in-Ok.ensures.known)
+    (known-grown t2 t3 binders c.type_under-in-Application.new.known.entries c.in_ok-ty-in-Application.ensures.grows still2 c.in_ok-type_under-in-Application.ensures.known)
 
-pub type_under-returns-in-Err-codomain-clause-known : goal.type_under-returns-in-Err-codomain-clause-known
-type_under-returns-in-Err-codomain-clause-known t c =
+pub type_under-returns-in_err-ty-in-Application-clause-known : goal.type_under-returns-in_err-ty-in-Application-clause-known
+type_under-returns-in_err-ty-in-Application-clause-known t c =
     let t0 = c.args.terms.now in
     let t1 = c.type_under.new.terms in
     let t2 = c.type_under-in-Application.new.terms in
     let binders = c.args.binders.now in
     let grown2 = IsGrown-trans t0 t1 t2 c.type_under.ensures.grows c.type_under-in-Application.ensures.grows in
-    known-grown t2 c.codomain.new.terms binders c.type_under-in-Application.new.known.entries c.in-Err-codomain.ensures.grows
-    (types-still t0.types t2.types grown2.types binders c.requires.binders) c.in-Ok.ensures.known
+    known-grown t2 c.codomain.new.terms binders c.type_under-in-Application.new.known.entries c.in_err-ty-in-Application.ensures.grows
+    (types-still t0.types t2.types grown2.types binders c.requires.binders) c.in_ok-type_under-in-Application.ensures.known
 
-pub type_under-returns-in-Err-clause-typed : goal.type_under-returns-in-Err-clause-typed
-type_under-returns-in-Err-clause-typed t c =
+pub type_under-returns-in_err-type_under-in-Application-clause-typed : goal.type_under-returns-in_err-type_under-in-Application-clause-typed
+type_under-returns-in_err-type_under-in-Application-clause-typed t c =
+    let p = err_from_is_err_and c.from_residual-in_err-type_under-in-Application.result c.from_residual-in_err-type_under-in-Application.ensures.1 in
     let t0 = c.args.terms.now in
-    argument-refused t0 c.type_under.new.terms c.type_under-in-Application.new.terms.types c.args.binders.now (term_at t0.terms c.args.number) c.args.number c.in-Application.function
-    c.in-Application.argument c.in-Err.fault
-    c.type_under.ensures.grows c.requires.binders c.in-Application.ensures.parts.1 c.requires.number c.in-Application.ensures.shape c.in-Err.ensures.typed
+    rw (p.1, p.2)
+    (argument-refused t0 c.type_under.new.terms c.type_under-in-Application.new.terms.types c.args.binders.now (term_at t0.terms c.args.number) c.args.number c.in-Application.function
+    c.in-Application.argument c.in_err-type_under-in-Application.field-0.0
+    c.type_under.ensures.grows c.requires.binders c.in-Application.ensures.parts.1 c.requires.number c.in-Application.ensures.shape c.in_err-type_under-in-Application.ensures.typed)
 
 -- abstractions
 
 pub type_under-function_type-requires-clause-codomain : goal.type_under-function_type-requires-clause-codomain
-type_under-function_type-requires-clause-codomain t c = is_within _ c.in-Ok-type_of_body.body_ty _ c.in-Ok-type_of_body.ensures.typed.number
+type_under-function_type-requires-clause-codomain t c = is_within _ c.in_ok-body_ty-in-Abstraction.body_ty _ c.in_ok-body_ty-in-Abstraction.ensures.typed.number
 
-pub type_under-keep-requires-in-Ok-function_type-clause-typed : goal.type_under-keep-requires-in-Ok-function_type-clause-typed
-type_under-keep-requires-in-Ok-function_type-clause-typed t c =
+pub type_under-keep-requires-in-Abstraction-clause-typed : goal.type_under-keep-requires-in-Abstraction-clause-typed
+type_under-keep-requires-in-Abstraction-clause-typed t c =
     let t0 = c.args.terms.now in
     let t1 = c.type_of_body.new.terms in
     let t2 = c.function_type.new.self in
     let binders = binder_types t0.types c.args.binders.now in
-    let made = typed-abstraction t0.types t1.types t2.types binders (term_at t0.terms c.args.number) c.in-Abstraction.ty (term_at t0.terms c.in-Abstraction.body) c.in-Ok-type_of_body.body_ty
-    (Ok c.in-Ok-function_type.whole)
-    c.type_of_body.ensures.grows.types c.in-Abstraction.ensures.parts.0 c.in-Abstraction.ensures.shape c.in-Ok-type_of_body.ensures.typed c.in-Ok-function_type.ensures.number
-    c.in-Ok-function_type.ensures.within_limit tt in
-    let grown = IsGrown-trans t0 t1 t2 c.type_of_body.ensures.grows c.in-Ok-function_type.ensures.grows in
-    typed-under_some t2.types binders (term_at t2.terms c.args.number) c.in-Ok-function_type.whole
-    (subst (λ u. AnswersTyping binders u (Ok c.in-Ok-function_type.whole) t2.types) (sym (term-grown t0 t2 c.args.number grown c.requires.number)) made)
+    let made = typed-abstraction t0.types t1.types t2.types binders (term_at t0.terms c.args.number) c.in-Abstraction.ty (term_at t0.terms c.in-Abstraction.body) c.in_ok-body_ty-in-Abstraction.body_ty
+    (Ok c.in_ok-whole-in-Abstraction.whole)
+    c.type_of_body.ensures.grows.types c.in-Abstraction.ensures.parts.0 c.in-Abstraction.ensures.shape c.in_ok-body_ty-in-Abstraction.ensures.typed c.in_ok-whole-in-Abstraction.ensures.number
+    c.in_ok-whole-in-Abstraction.ensures.within_limit tt in
+    let grown = IsGrown-trans t0 t1 t2 c.type_of_body.ensures.grows c.in_ok-whole-in-Abstraction.ensures.grows in
+    typed-under_some t2.types binders (term_at t2.terms c.args.number) c.in_ok-whole-in-Abstraction.whole
+    (subst (λ u. AnswersTyping binders u (Ok c.in_ok-whole-in-Abstraction.whole) t2.types) (sym (term-grown t0 t2 c.args.number grown c.requires.number)) made)
 
-pub type_under-returns-in-Ok-function_type-clause-typed : goal.type_under-returns-in-Ok-function_type-clause-typed
-type_under-returns-in-Ok-function_type-clause-typed t c =
+pub type_under-returns-in_ok-whole-in-Abstraction-clause-typed : goal.type_under-returns-in_ok-whole-in-Abstraction-clause-typed
+type_under-returns-in_ok-whole-in-Abstraction-clause-typed t c =
     let t0 = c.args.terms.now in
     let t1 = c.type_of_body.new.terms in
     let t2 = c.function_type.new.self in
     let binders = binder_types t0.types c.args.binders.now in
-    let made = typed-abstraction t0.types t1.types t2.types binders (term_at t0.terms c.args.number) c.in-Abstraction.ty (term_at t0.terms c.in-Abstraction.body) c.in-Ok-type_of_body.body_ty
-    (Ok c.in-Ok-function_type.whole)
-    c.type_of_body.ensures.grows.types c.in-Abstraction.ensures.parts.0 c.in-Abstraction.ensures.shape c.in-Ok-type_of_body.ensures.typed c.in-Ok-function_type.ensures.number
-    c.in-Ok-function_type.ensures.within_limit tt in
-    typed-kept t2.types c.keep-in-Ok-function_type.new.terms.types binders (term_at t0.terms c.args.number) c.in-Ok-function_type.whole c.keep-in-Ok-function_type.result
-    c.keep-in-Ok-function_type.ensures.grows.types made c.keep-in-Ok-function_type.ensures.same c.keep-in-Ok-function_type.ensures.refused
+    let made = typed-abstraction t0.types t1.types t2.types binders (term_at t0.terms c.args.number) c.in-Abstraction.ty (term_at t0.terms c.in-Abstraction.body) c.in_ok-body_ty-in-Abstraction.body_ty
+    (Ok c.in_ok-whole-in-Abstraction.whole)
+    c.type_of_body.ensures.grows.types c.in-Abstraction.ensures.parts.0 c.in-Abstraction.ensures.shape c.in_ok-body_ty-in-Abstraction.ensures.typed c.in_ok-whole-in-Abstraction.ensures.number
+    c.in_ok-whole-in-Abstraction.ensures.within_limit tt in
+    typed-kept t2.types c.keep-in-Abstraction.new.terms.types binders (term_at t0.terms c.args.number) c.in_ok-whole-in-Abstraction.whole c.keep-in-Abstraction.result
+    c.keep-in-Abstraction.ensures.grows.types made c.keep-in-Abstraction.ensures.same c.keep-in-Abstraction.ensures.refused
 
-pub type_under-returns-in-Ok-function_type-clause-known : goal.type_under-returns-in-Ok-function_type-clause-known
-type_under-returns-in-Ok-function_type-clause-known t c =
+pub type_under-returns-in_ok-whole-in-Abstraction-clause-known : goal.type_under-returns-in_ok-whole-in-Abstraction-clause-known
+type_under-returns-in_ok-whole-in-Abstraction-clause-known t c =
     let t0 = c.args.terms.now in
     let t1 = c.type_of_body.new.terms in
     let t2 = c.function_type.new.self in
-    let t3 = c.keep-in-Ok-function_type.new.terms in
+    let t3 = c.keep-in-Abstraction.new.terms in
     let binders = c.args.binders.now in
     let made = typed-abstraction t0.types t1.types t2.types (binder_types t0.types binders) (term_at t0.terms c.args.number) c.in-Abstraction.ty (term_at t0.terms c.in-Abstraction.body)
-    c.in-Ok-type_of_body.body_ty (Ok c.in-Ok-function_type.whole)
-    c.type_of_body.ensures.grows.types c.in-Abstraction.ensures.parts.0 c.in-Abstraction.ensures.shape c.in-Ok-type_of_body.ensures.typed c.in-Ok-function_type.ensures.number
-    c.in-Ok-function_type.ensures.within_limit tt in
-    let grown = IsGrown-trans t0 t1 t2 c.type_of_body.ensures.grows c.in-Ok-function_type.ensures.grows in
-    known-kept t0 t2 t3 binders c.args.known.now.entries c.keep-in-Ok-function_type.new.known.entries c.args.number c.in-Ok-function_type.whole grown c.keep-in-Ok-function_type.ensures.grows
-    (IsGrown-trans t0 t2 t3 grown c.keep-in-Ok-function_type.ensures.grows) c.requires.binders
-    (types-still t0.types t2.types grown.types binders c.requires.binders) c.requires.number made c.keep-in-Ok-function_type.ensures.added
+    c.in_ok-body_ty-in-Abstraction.body_ty (Ok c.in_ok-whole-in-Abstraction.whole)
+    c.type_of_body.ensures.grows.types c.in-Abstraction.ensures.parts.0 c.in-Abstraction.ensures.shape c.in_ok-body_ty-in-Abstraction.ensures.typed c.in_ok-whole-in-Abstraction.ensures.number
+    c.in_ok-whole-in-Abstraction.ensures.within_limit tt in
+    let grown = IsGrown-trans t0 t1 t2 c.type_of_body.ensures.grows c.in_ok-whole-in-Abstraction.ensures.grows in
+    known-kept t0 t2 t3 binders c.args.known.now.entries c.keep-in-Abstraction.new.known.entries c.args.number c.in_ok-whole-in-Abstraction.whole grown c.keep-in-Abstraction.ensures.grows
+    (IsGrown-trans t0 t2 t3 grown c.keep-in-Abstraction.ensures.grows) c.requires.binders
+    (types-still t0.types t2.types grown.types binders c.requires.binders) c.requires.number made c.keep-in-Abstraction.ensures.added
     (known-grown t0 t2 binders c.args.known.now.entries grown c.requires.binders c.requires.known)
 
-pub type_under-returns-in-Err-function_type-clause-typed : goal.type_under-returns-in-Err-function_type-clause-typed
-type_under-returns-in-Err-function_type-clause-typed t c =
+pub type_under-returns-in_err-whole-in-Abstraction-clause-typed : goal.type_under-returns-in_err-whole-in-Abstraction-clause-typed
+type_under-returns-in_err-whole-in-Abstraction-clause-typed t c =
+    let p = err_from_is_err_and c.from_residual-in_err-whole-in-Abstraction.result c.from_residual-in_err-whole-in-Abstraction.ensures.1 in
     let t0 = c.args.terms.now in
-    typed-abstraction t0.types c.type_of_body.new.terms.types c.function_type.new.self.types (binder_types t0.types c.args.binders.now) (term_at t0.terms c.args.number) c.in-Abstraction.ty
-    (term_at t0.terms c.in-Abstraction.body) c.in-Ok-type_of_body.body_ty (Err c.in-Err-function_type.fault)
-    c.type_of_body.ensures.grows.types c.in-Abstraction.ensures.parts.0 c.in-Abstraction.ensures.shape c.in-Ok-type_of_body.ensures.typed tt tt c.in-Err-function_type.ensures.refused
+    rw (p.1, p.2)
+    (typed-abstraction t0.types c.type_of_body.new.terms.types c.function_type.new.self.types (binder_types t0.types c.args.binders.now) (term_at t0.terms c.args.number) c.in-Abstraction.ty
+    (term_at t0.terms c.in-Abstraction.body) c.in_ok-body_ty-in-Abstraction.body_ty (Err c.in_err-whole-in-Abstraction.field-0.0)
+    c.type_of_body.ensures.grows.types c.in-Abstraction.ensures.parts.0 c.in-Abstraction.ensures.shape c.in_ok-body_ty-in-Abstraction.ensures.typed tt tt c.in_err-whole-in-Abstraction.ensures.refused)
 
-pub type_under-returns-in-Err-function_type-clause-known : goal.type_under-returns-in-Err-function_type-clause-known
-type_under-returns-in-Err-function_type-clause-known t c =
+pub type_under-returns-in_err-whole-in-Abstraction-clause-known : goal.type_under-returns-in_err-whole-in-Abstraction-clause-known
+type_under-returns-in_err-whole-in-Abstraction-clause-known t c =
     let t0 = c.args.terms.now in
     let t2 = c.function_type.new.self in
-    known-grown t0 t2 c.args.binders.now c.args.known.now.entries (IsGrown-trans t0 c.type_of_body.new.terms t2 c.type_of_body.ensures.grows c.in-Err-function_type.ensures.grows)
+    known-grown t0 t2 c.args.binders.now c.args.known.now.entries (IsGrown-trans t0 c.type_of_body.new.terms t2 c.type_of_body.ensures.grows c.in_err-whole-in-Abstraction.ensures.grows)
     c.requires.binders c.requires.known
 
-pub type_under-returns-in-Err-type_of_body-clause-known : goal.type_under-returns-in-Err-type_of_body-clause-known
-type_under-returns-in-Err-type_of_body-clause-known t c = known-grown c.args.terms.now c.type_of_body.new.terms c.args.binders.now c.args.known.now.entries c.type_of_body.ensures.grows
+pub type_under-returns-in_err-body_ty-in-Abstraction-clause-known : goal.type_under-returns-in_err-body_ty-in-Abstraction-clause-known
+type_under-returns-in_err-body_ty-in-Abstraction-clause-known t c = known-grown c.args.terms.now c.type_of_body.new.terms c.args.binders.now c.args.known.now.entries c.type_of_body.ensures.grows
     c.requires.binders c.requires.known
