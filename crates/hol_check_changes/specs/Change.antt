@@ -109,11 +109,6 @@ pub record IsVariable (terms : List Nameless) (number : ℕ) : Type 0 where
   pub ty : HolType
   pub is_free : slice_get terms number ≡ Some (free name ty)
 
--- the numbers of the pairs name values
-pub record NamePairs {Value : Type 0} (values : List Value) (pairs : List (ℕ × ℕ)) : Type 0 where
-  pub named : List (Value × Value)
-  pub are_pairs : ArePairs values pairs named
-
 -- the change leaves terms without free variables as they are
 abbrev pub spares : Change → Bool
 spares (Close variable) = true

@@ -1,14 +1,12 @@
 // Changes of terms: each part is worked out once for each number of binders around it that is counted.
 ghost use Rattle.std.specs.Prelude.{◌≡◌, ◌+◌, ◌<◌, ◌≤◌, ℕ, List, Some, slice_get, length};
-ghost use Rattle.hol_model.specs.Terms.HolType.{HolType, type_instance_of};
+ghost use Rattle.hol_model.specs.Terms.HolType.{HolType};
 ghost use Rattle.hol_model.specs.Terms.Measures.{nameless_height};
 ghost use Rattle.hol_model.specs.Terms.Nameless.{Nameless, free};
 ghost use Rattle.hol_model.specs.Terms.Substitution as substitution;
-ghost use Rattle.hol_model.specs.Logs.LogSequents.{term_instance_of};
 ghost use Rattle.hol_model.specs.declared.limits.TheConstants.{TERM_HEIGHT_LIMIT};
 ghost use Rattle.hol_check_terms.specs.Terms.{term_at, IsGrown};
-ghost use Rattle.hol_check_changes.specs.Pairs.{ArePairs};
-ghost use Rattle.hol_check_changes.specs.Change.{PartChange, changed, IsHeld, IsWork, Answers, IsMeant, HasMeaning, IsAnswered, IsMade, IsVariable, NamePairs};
+ghost use Rattle.hol_check_changes.specs.Change.{PartChange, changed, IsHeld, IsWork, Answers, IsMeant, HasMeaning, IsAnswered, IsMade, IsVariable};
 
 use crate::leaves::{
     Change, change_bound, change_constant, change_free, change_type, deeper, spares,
@@ -51,10 +49,8 @@ fn change_at(
             }
             let new_function = change_at(terms, parts, types, change, passed, function)?;
             let new_argument = change_at(terms, parts, types, change, passed, argument)?;
-            match terms.application(new_function, new_argument) {
-                Ok(new) => remember(parts, place, new),
-                Err(fault) => Err(fault),
-            }
+            let new = terms.application(new_function, new_argument)?;
+            remember(parts, place, new)
         }
         TermShape::Abstraction(ty, body) => {
             if let Some(new) = recall(parts, place) {
@@ -63,10 +59,8 @@ fn change_at(
             let new_ty = change_type(terms, types, change, ty)?;
             let inside = deeper(change, passed);
             let new_body = change_at(terms, parts, types, change, inside, body)?;
-            match terms.abstraction(new_ty, new_body) {
-                Ok(new) => remember(parts, place, new),
-                Err(fault) => Err(fault),
-            }
+            let new = terms.abstraction(new_ty, new_body)?;
+            remember(parts, place, new)
         }
     }
 }
@@ -100,38 +94,6 @@ pub(crate) fn fill(
     ensures grows { IsGrown terms.old terms.new }
 {
     change_whole(alloc, terms, &Change::Fill(new), number)
-}
-
-/// A term with its free variables replaced, all at once, by pairs (new, old), of which the first counts.
-pub(crate) fn put(
-    alloc: Global,
-    terms: &mut Terms,
-    pairs: &[(usize, usize)],
-    number: usize,
-) -> Result<usize, Fault>
-    requires pairs { NamePairs terms.old.terms pairs.now }
-    requires number { number < length terms.old.terms }
-    ensures put { (theta : List (Nameless × Nameless)) → ArePairs terms.old.terms pairs.now theta
-        → IsMade (substitution.put (term_instance_of theta) (term_at terms.old.terms number)) result terms.new.terms }
-    ensures grows { IsGrown terms.old terms.new }
-{
-    change_whole(alloc, terms, &Change::Put(pairs), number)
-}
-
-/// A term with its type variables replaced, all at once, by pairs (new, old), of which the first counts.
-pub(crate) fn instantiate(
-    alloc: Global,
-    terms: &mut Terms,
-    pairs: &[(usize, usize)],
-    number: usize,
-) -> Result<usize, Fault>
-    requires pairs { NamePairs terms.old.types pairs.now }
-    requires number { number < length terms.old.terms }
-    ensures instantiated { (theta : List (HolType × HolType)) → ArePairs terms.old.types pairs.now theta
-        → IsMade (substitution.instantiate (type_instance_of theta) (term_at terms.old.terms number)) result terms.new.terms }
-    ensures grows { IsGrown terms.old terms.new }
-{
-    change_whole(alloc, terms, &Change::Instantiate(pairs), number)
 }
 
 /// The change of a term that stands under no binders.

@@ -22,10 +22,7 @@ pub fn is_free_variable(terms: &Terms, number: usize) -> bool
 {
     match terms.shape(number) {
         TermShape::Free(_name, _ty) => true,
-        TermShape::Constant(_name, _ty) => false,
-        TermShape::Bound(_index) => false,
-        TermShape::Application(_function, _argument) => false,
-        TermShape::Abstraction(_ty, _body) => false,
+        _ => false,
     }
 }
 
@@ -38,20 +35,11 @@ pub fn is_equation(terms: &Terms, number: usize) -> bool
         TermShape::Application(half, _right) => match terms.shape(half) {
             TermShape::Application(equality, _left) => match terms.shape(equality) {
                 TermShape::Constant(name, _ty) => is_equality_name(terms, name),
-                TermShape::Free(_name, _ty) => false,
-                TermShape::Bound(_index) => false,
-                TermShape::Application(_function, _argument) => false,
-                TermShape::Abstraction(_ty, _body) => false,
+                _ => false,
             },
-            TermShape::Free(_name, _ty) => false,
-            TermShape::Constant(_name, _ty) => false,
-            TermShape::Bound(_index) => false,
-            TermShape::Abstraction(_ty, _body) => false,
+            _ => false,
         },
-        TermShape::Free(_name, _ty) => false,
-        TermShape::Constant(_name, _ty) => false,
-        TermShape::Bound(_index) => false,
-        TermShape::Abstraction(_ty, _body) => false,
+        _ => false,
     }
 }
 
@@ -72,15 +60,9 @@ pub fn left_side(terms: &Terms, number: usize) -> usize
     match terms.shape(number) {
         TermShape::Application(half, _right) => match terms.shape(half) {
             TermShape::Application(_equality, left) => left,
-            TermShape::Free(_name, _ty) => number,
-            TermShape::Constant(_name, _ty) => number,
-            TermShape::Bound(_index) => number,
-            TermShape::Abstraction(_ty, _body) => number,
+            _ => number,
         },
-        TermShape::Free(_name, _ty) => number,
-        TermShape::Constant(_name, _ty) => number,
-        TermShape::Bound(_index) => number,
-        TermShape::Abstraction(_ty, _body) => number,
+        _ => number,
     }
 }
 
@@ -92,10 +74,7 @@ pub fn right_side(terms: &Terms, number: usize) -> usize
 {
     match terms.shape(number) {
         TermShape::Application(_half, right) => right,
-        TermShape::Free(_name, _ty) => number,
-        TermShape::Constant(_name, _ty) => number,
-        TermShape::Bound(_index) => number,
-        TermShape::Abstraction(_ty, _body) => number,
+        _ => number,
     }
 }
 
@@ -108,15 +87,9 @@ pub fn is_trivial_redex(alloc: Global, terms: &Terms, number: usize) -> Result<b
     match terms.shape(number) {
         TermShape::Application(function, argument) => match terms.shape(function) {
             TermShape::Abstraction(_ty, body) => is_absent_variable(alloc, terms, argument, body),
-            TermShape::Free(_name, _ty) => Ok(false),
-            TermShape::Constant(_name, _ty) => Ok(false),
-            TermShape::Bound(_index) => Ok(false),
-            TermShape::Application(_function, _argument) => Ok(false),
+            _ => Ok(false),
         },
-        TermShape::Free(_name, _ty) => Ok(false),
-        TermShape::Constant(_name, _ty) => Ok(false),
-        TermShape::Bound(_index) => Ok(false),
-        TermShape::Abstraction(_ty, _body) => Ok(false),
+        _ => Ok(false),
     }
 }
 
@@ -133,13 +106,7 @@ fn is_absent_variable(
     ensures refused { IfErr result (λ fault. fault ≡ Memory) }
 {
     match terms.shape(variable) {
-        TermShape::Free(_name, _ty) => match occurs_free(alloc, terms, variable, body) {
-            Ok(occurs) => Ok(!occurs),
-            Err(fault) => Err(fault),
-        },
-        TermShape::Constant(_name, _ty) => Ok(false),
-        TermShape::Bound(_index) => Ok(false),
-        TermShape::Application(_function, _argument) => Ok(false),
-        TermShape::Abstraction(_ty, _body) => Ok(false),
+        TermShape::Free(_name, _ty) => Ok(!occurs_free(alloc, terms, variable, body)?),
+        _ => Ok(false),
     }
 }

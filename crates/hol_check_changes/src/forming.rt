@@ -26,10 +26,8 @@ pub fn within_limits(alloc: Global, terms: &mut Terms, number: usize) -> Result<
     ensures formed { IsFormed (term_at terms.old.terms number) result terms.new.terms }
     ensures grows { IsGrown terms.old terms.new }
 {
-    match type_of(alloc, terms, number) {
-        Ok(_ty) => Ok(number),
-        Err(fault) => Err(fault),
-    }
+    type_of(alloc, terms, number)?;
+    Ok(number)
 }
 
 // The type of equality between terms of a type.
@@ -50,10 +48,8 @@ pub fn constant(alloc: Global, terms: &mut Terms, name: &[u8], ty: usize) -> Res
     ensures refused { IfErr result (λ fault. fault ≡ Memory) }
     ensures grows { IsGrown terms.old terms.new }
 {
-    match terms.name(alloc, name) {
-        Ok(name) => terms.constant(name, ty),
-        Err(fault) => Err(fault),
-    }
+    let name = terms.name(alloc, name)?;
+    terms.constant(name, ty)
 }
 
 /// The variable of a name and a type.
@@ -63,10 +59,8 @@ pub fn variable(alloc: Global, terms: &mut Terms, name: &[u8], ty: usize) -> Res
     ensures refused { IfErr result (λ fault. fault ≡ Memory) }
     ensures grows { IsGrown terms.old terms.new }
 {
-    match terms.name(alloc, name) {
-        Ok(name) => terms.free(name, ty),
-        Err(fault) => Err(fault),
-    }
+    let name = terms.name(alloc, name)?;
+    terms.free(name, ty)
 }
 
 /// A function applied to an argument.
@@ -92,10 +86,8 @@ pub fn abstraction_over(
     ensures grows { IsGrown terms.old terms.new }
 {
     let ty = variable_type(terms, variable);
-    match close(alloc, terms, variable, number) {
-        Ok(body) => terms.abstraction(ty, body),
-        Err(fault) => Err(fault),
-    }
+    let body = close(alloc, terms, variable, number)?;
+    terms.abstraction(ty, body)
 }
 
 // The type of a variable.
@@ -106,10 +98,7 @@ fn variable_type(terms: &Terms, variable: usize) -> usize
 {
     match terms.shape(variable) {
         TermShape::Free(_name, ty) => ty,
-        TermShape::Constant(_name, _ty) => unreachable!(),
-        TermShape::Bound(_index) => unreachable!(),
-        TermShape::Application(_function, _argument) => unreachable!(),
-        TermShape::Abstraction(_ty, _body) => unreachable!(),
+        _ => unreachable!(),
     }
 }
 
@@ -144,15 +133,9 @@ pub(crate) fn side_type(terms: &mut Terms, number: usize) -> Result<usize, Fault
     match terms.shape(number) {
         TermShape::Application(half, _right) => match terms.shape(half) {
             TermShape::Application(equality, _left) => argument_type(terms, equality),
-            TermShape::Free(_name, _ty) => terms.boolean(),
-            TermShape::Constant(_name, _ty) => terms.boolean(),
-            TermShape::Bound(_index) => terms.boolean(),
-            TermShape::Abstraction(_ty, _body) => terms.boolean(),
+            _ => terms.boolean(),
         },
-        TermShape::Free(_name, _ty) => terms.boolean(),
-        TermShape::Constant(_name, _ty) => terms.boolean(),
-        TermShape::Bound(_index) => terms.boolean(),
-        TermShape::Abstraction(_ty, _body) => terms.boolean(),
+        _ => terms.boolean(),
     }
 }
 
@@ -165,10 +148,7 @@ fn argument_type(terms: &mut Terms, number: usize) -> Result<usize, Fault>
 {
     match terms.shape(number) {
         TermShape::Constant(_name, ty) => domain(terms, ty),
-        TermShape::Free(_name, _ty) => terms.boolean(),
-        TermShape::Bound(_index) => terms.boolean(),
-        TermShape::Application(_function, _argument) => terms.boolean(),
-        TermShape::Abstraction(_ty, _body) => terms.boolean(),
+        _ => terms.boolean(),
     }
 }
 
@@ -181,9 +161,7 @@ fn domain(terms: &mut Terms, ty: usize) -> Result<usize, Fault>
 {
     match terms.type_shape(ty) {
         TypeShape::Function(domain, _codomain) => Ok(domain),
-        TypeShape::Variable(_name) => terms.boolean(),
-        TypeShape::Boolean => terms.boolean(),
-        TypeShape::Declared(_name) => terms.boolean(),
+        _ => terms.boolean(),
     }
 }
 
@@ -195,9 +173,7 @@ pub fn takes(terms: &Terms, function: usize, argument: usize) -> bool
 {
     match terms.type_shape(function) {
         TypeShape::Function(domain, _codomain) => terms.is_same_type(domain, argument),
-        TypeShape::Variable(_name) => false,
-        TypeShape::Boolean => false,
-        TypeShape::Declared(_name) => false,
+        _ => false,
     }
 }
 
@@ -213,10 +189,8 @@ pub fn equation_of(
     ensures formed { IsFormed (sequents.equation_of (term_at terms.old.terms left) (term_at terms.old.terms right)) result terms.new.terms }
     ensures grows { IsGrown terms.old terms.new }
 {
-    match type_of(alloc, terms, left) {
-        Ok(ty) => equation_at(alloc, terms, ty, left, right),
-        Err(fault) => Err(fault),
-    }
+    let ty = type_of(alloc, terms, left)?;
+    equation_at(alloc, terms, ty, left, right)
 }
 
 // The equation of two terms at a type.
@@ -253,10 +227,8 @@ fn applied_to_both(
     ensures grows { IsGrown terms.old terms.new }
 {
     let half = application(terms, function, left)?;
-    match application(terms, half, right) {
-        Ok(whole) => within_limits(alloc, terms, whole),
-        Err(fault) => Err(fault),
-    }
+    let whole = application(terms, half, right)?;
+    within_limits(alloc, terms, whole)
 }
 
 /// The equation of two functions applied to arguments.
@@ -275,10 +247,8 @@ pub fn equation_of_applications(
     ensures grows { IsGrown terms.old terms.new }
 {
     let left = application(terms, left.0, left.1)?;
-    match application(terms, right.0, right.1) {
-        Ok(right) => equation_of(alloc, terms, left, right),
-        Err(fault) => Err(fault),
-    }
+    let right = application(terms, right.0, right.1)?;
+    equation_of(alloc, terms, left, right)
 }
 
 /// The equation of the abstractions of two bodies over a variable.
@@ -297,10 +267,8 @@ pub fn equation_of_abstractions(
     ensures grows { IsGrown terms.old terms.new }
 {
     let left = abstraction_over(alloc, terms, variable, left)?;
-    match abstraction_over(alloc, terms, variable, right) {
-        Ok(right) => equation_of(alloc, terms, left, right),
-        Err(fault) => Err(fault),
-    }
+    let right = abstraction_over(alloc, terms, variable, right)?;
+    equation_of(alloc, terms, left, right)
 }
 
 /// The equation of an abstraction that is applied and its body with the argument in it.
@@ -309,10 +277,8 @@ pub fn equation_of_redex(alloc: Global, terms: &mut Terms, redex: usize) -> Resu
     ensures formed { IsFormed (sequents.equation_of (term_at terms.old.terms redex) (sequents.redex_body (term_at terms.old.terms redex))) result terms.new.terms }
     ensures grows { IsGrown terms.old terms.new }
 {
-    match redex_body(alloc, terms, redex) {
-        Ok(body) => equation_of(alloc, terms, redex, body),
-        Err(fault) => Err(fault),
-    }
+    let body = redex_body(alloc, terms, redex)?;
+    equation_of(alloc, terms, redex, body)
 }
 
 /// Whether the function on the sides of an equation takes what is on the sides of another.
@@ -324,9 +290,20 @@ pub fn sides_fit(terms: &mut Terms, first: usize, second: usize) -> Result<bool,
     ensures grows { IsGrown terms.old terms.new }
 {
     let function = side_type(terms, first)?;
-    match side_type(terms, second) {
-        Ok(argument) => Ok(takes(terms, function, argument)),
-        Err(fault) => Err(fault),
+    let argument = side_type(terms, second)?;
+    Ok(takes(terms, function, argument))
+}
+
+/// The type of a term within the limits, which only memory refuses.
+pub fn fitting_type(alloc: Global, terms: &mut Terms, number: usize) -> Result<usize, Fault>
+    requires { IsFitting terms.old.terms number }
+    ensures number { IfOk result (λ ty. slice_get terms.new.types ty ≡ Some (term_type (term_at terms.old.terms number))) }
+    ensures refused { IfErr result (λ fault. fault ≡ Memory) }
+    ensures grows { IsGrown terms.old terms.new }
+{
+    match type_of(alloc, terms, number) {
+        Ok(ty) => Ok(ty),
+        Err(_fault) => Err(Fault::Memory),
     }
 }
 
@@ -337,14 +314,9 @@ pub fn is_formula(alloc: Global, terms: &mut Terms, number: usize) -> Result<boo
     ensures refused { IfErr result (λ fault. fault ≡ Memory) }
     ensures grows { IsGrown terms.old terms.new }
 {
-    let ty = match type_of(alloc, terms, number) {
-        Ok(ty) => ty,
-        Err(_fault) => return Err(Fault::Memory),
-    };
-    match terms.boolean() {
-        Ok(boolean) => Ok(terms.is_same_type(ty, boolean)),
-        Err(fault) => Err(fault),
-    }
+    let ty = fitting_type(alloc, terms, number)?;
+    let boolean = terms.boolean()?;
+    Ok(terms.is_same_type(ty, boolean))
 }
 
 /// Whether two terms within the limits have one type.
@@ -360,12 +332,7 @@ pub fn have_one_type(
     ensures refused { IfErr result (λ fault. fault ≡ Memory) }
     ensures grows { IsGrown terms.old terms.new }
 {
-    let first_ty = match type_of(alloc, terms, first) {
-        Ok(first_ty) => first_ty,
-        Err(_fault) => return Err(Fault::Memory),
-    };
-    match type_of(alloc, terms, second) {
-        Ok(second_ty) => Ok(terms.is_same_type(first_ty, second_ty)),
-        Err(_fault) => Err(Fault::Memory),
-    }
+    let first_ty = fitting_type(alloc, terms, first)?;
+    let second_ty = fitting_type(alloc, terms, second)?;
+    Ok(terms.is_same_type(first_ty, second_ty))
 }

@@ -37,10 +37,8 @@ pub(crate) fn instantiate_type(
             }
             let new_domain = instantiate_type(terms, types, pairs, domain)?;
             let new_codomain = instantiate_type(terms, types, pairs, codomain)?;
-            match terms.function_type(new_domain, new_codomain) {
-                Ok(new) => remember_type(types, ty, new),
-                Err(fault) => Err(fault),
-            }
+            let new = terms.function_type(new_domain, new_codomain)?;
+            remember_type(types, ty, new)
         }
     }
 }

@@ -102,10 +102,10 @@ pub(crate) fn change_free(
         }
         Change::Fill(_new) => Ok(number),
         Change::Put(pairs) => Ok(replaced(pairs, number)),
-        Change::Instantiate(_pairs) => match change_type(terms, types, change, ty) {
-            Ok(new) => terms.free(name, new),
-            Err(fault) => Err(fault),
-        },
+        Change::Instantiate(_pairs) => {
+            let new = change_type(terms, types, change, ty)?;
+            terms.free(name, new)
+        }
     }
 }
 
@@ -128,10 +128,8 @@ pub(crate) fn change_constant(
         → AnswersLeaf (changed meaning passed (term_at terms.old.terms number)) result terms.new change.now types.new.entries meaning }
     ensures grows { IsGrown terms.old terms.new }
 {
-    match change_type(terms, types, change, ty) {
-        Ok(new) => terms.constant(name, new),
-        Err(fault) => Err(fault),
-    }
+    let new = change_type(terms, types, change, ty)?;
+    terms.constant(name, new)
 }
 
 /// What becomes of a bound variable.

@@ -9,7 +9,7 @@ ghost use Rattle.hol_model.specs.Terms.Nameless.{Nameless};
 ghost use Rattle.hol_model.specs.Logs.LogSequents.{supposing};
 ghost use Rattle.hol_check_terms.specs.Terms.{type_at, term_at, IsGrown};
 ghost use Rattle.hol_check_changes.specs.Pairs.{ArePairs};
-ghost use Rattle.hol_check_changes.specs.Change.{PartChange, changed, IsMeant, HasMeaning, NamePairs};
+ghost use Rattle.hol_check_changes.specs.Change.{PartChange, changed, IsMeant, HasMeaning};
 ghost use Rattle.hol_check_rules.specs.Hypotheses.{terms_in};
 ghost use Rattle.hol_check_rules.specs.State.{sequent_in, IsFittingTheorem};
 ghost use Rattle.hol_check_rules.specs.StepPairs.{term_pairs_in, type_pairs_in, IsFittingPair, IsTypePair};

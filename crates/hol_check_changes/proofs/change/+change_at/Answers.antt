@@ -86,10 +86,11 @@ application-requires-clause-function t c =
 pub application-requires-clause-argument : goal.application-requires-clause-argument
 application-requires-clause-argument t c =
     let work = c.requires.work in
-    is_within _ c.in_ok-new_argument-in-Application.new_argument _ (c.in_ok-new_argument-in-Application.ensures.changed work.meaning (c.in_ok-new_function-in-Application.ensures.changed work.meaning work.held).held).answered.number
+    is_within _ c.in_ok-new_argument-in-Application.new_argument _ (c.in_ok-new_argument-in-Application.ensures.changed work.meaning
+    (c.in_ok-new_function-in-Application.ensures.changed work.meaning work.held).held).answered.number
 
-pub returns-in-Ok-clause-changed : goal.returns-in-Ok-clause-changed
-returns-in-Ok-clause-changed t c = λ meaning held.
+pub returns-in_ok-new-in-Application-clause-changed : goal.returns-in_ok-new-in-Application-clause-changed
+returns-in_ok-new-in-Application-clause-changed t c = λ meaning held.
     let t0 = c.args.terms.now in
     let t1 = c.change_at.new.terms in
     let t2 = c.change_at-in-Application.new.terms in
@@ -104,13 +105,14 @@ returns-in-Ok-clause-changed t c = λ meaning held.
     c.in_ok-new_function-in-Application.new_function c.in_ok-new_argument-in-Application.new_argument
     c.change_at-in-Application.ensures.grows shape first.answered.number second.answered.number in
     answers-made t0 t2 t3 c.args.change.now c.change_at-in-Application.new.parts.entries c.remember.new.parts.entries c.change_at-in-Application.new.types.entries meaning c.args.passed
-    c.args.number _ c.in-Ok.new c.remember.result
+    c.args.number _ c.in_ok-new-in-Application.new c.remember.result
     (IsGrown-trans t0 t1 t3 c.change_at.ensures.grows (IsGrown-trans t1 t2 t3 c.change_at-in-Application.ensures.grows c.application.ensures.grows)) c.application.ensures.grows
-    c.requires.number parts c.in-Ok.ensures.number second.held
+    c.requires.number parts c.in_ok-new-in-Application.ensures.number second.held
     c.remember.ensures.new c.remember.ensures.refused c.remember.ensures.added
 
-pub returns-in-Err-clause-changed : goal.returns-in-Err-clause-changed
-returns-in-Err-clause-changed t c = λ meaning held.
+pub returns-in_err-new-in-Application-clause-changed : goal.returns-in_err-new-in-Application-clause-changed
+returns-in_err-new-in-Application-clause-changed t c = λ meaning held.
+    let p = err_from_is_err_and c.from_residual-in_err-new-in-Application.result c.from_residual-in_err-new-in-Application.ensures.1 in
     let t0 = c.args.terms.now in
     let t1 = c.change_at.new.terms in
     let t2 = c.change_at-in-Application.new.terms in
@@ -124,8 +126,9 @@ returns-in-Err-clause-changed t c = λ meaning held.
     let parts = application-parts t1 t2 meaning c.args.passed (term_at t0.terms c.args.number) (term_at t0.terms c.in-Application.function) (term_at t1.terms c.in-Application.argument)
     c.in_ok-new_function-in-Application.new_function c.in_ok-new_argument-in-Application.new_argument
     c.change_at-in-Application.ensures.grows shape first.answered.number second.answered.number in
-    answers-refused t2 t3 c.args.change.now c.change_at-in-Application.new.parts.entries c.change_at-in-Application.new.types.entries meaning _ _ c.in-Err.fault
-    c.application.ensures.grows parts c.in-Err.ensures.refused second.held
+    rw (p.1, p.2)
+    (answers-refused t2 t3 c.args.change.now c.change_at-in-Application.new.parts.entries c.change_at-in-Application.new.types.entries meaning _ _ c.in_err-new-in-Application.field-0.0
+    c.application.ensures.grows parts c.in_err-new-in-Application.ensures.refused second.held)
 
 -- abstractions
 
@@ -181,7 +184,8 @@ returns-in_err-new_body-in-Abstraction-clause-changed t c = λ meaning held.
     rw (p.1, p.2)
     (refused-body meaning c.args.passed c.deeper-inside.result (term_at t0.terms c.args.number) (type_at t0.types c.in-Abstraction.ty) (term_at t1.terms c.in-Abstraction.body)
     (c.in-Abstraction.ensures.shape ∙ ap (lam (type_at t0.types c.in-Abstraction.ty)) (sym same))
-    (under-is t0 c.args.change.now meaning held.held.meant c.args.passed c.deeper-inside.result c.deeper-inside.ensures) c.in_err-new_body-in-Abstraction.field-0.0 c.change_at-in-Abstraction.new.terms
+    (under-is t0 c.args.change.now meaning held.held.meant c.args.passed c.deeper-inside.result c.deeper-inside.ensures) c.in_err-new_body-in-Abstraction.field-0.0
+    c.change_at-in-Abstraction.new.terms
     c.args.change.now c.change_at-in-Abstraction.new.parts.entries c.change_at-in-Abstraction.new.types.entries
     (c.in_err-new_body-in-Abstraction.ensures.changed meaning after))
 
@@ -198,8 +202,8 @@ abstraction-requires-clause-body t c =
     c.change_type.ensures.grows work.held (c.in_ok-new_ty-in-Abstraction.ensures.changed work.meaning work.held.held).held in
     is_within _ c.in_ok-new_body-in-Abstraction.new_body _ (c.in_ok-new_body-in-Abstraction.ensures.changed work.meaning after).answered.number
 
-pub returns-in-Ok-abstraction-clause-changed : goal.returns-in-Ok-abstraction-clause-changed
-returns-in-Ok-abstraction-clause-changed t c = λ meaning held.
+pub returns-in_ok-new-in-Abstraction-clause-changed : goal.returns-in_ok-new-in-Abstraction-clause-changed
+returns-in_ok-new-in-Abstraction-clause-changed t c = λ meaning held.
     let t0 = c.args.terms.now in
     let t1 = c.change_type.new.terms in
     let t2 = c.change_at-in-Abstraction.new.terms in
@@ -215,14 +219,15 @@ returns-in-Ok-abstraction-clause-changed t c = λ meaning held.
     (term_at t1.terms c.in-Abstraction.body) c.in_ok-new_ty-in-Abstraction.new_ty c.in_ok-new_body-in-Abstraction.new_body
     c.change_at-in-Abstraction.ensures.grows (c.in-Abstraction.ensures.shape ∙ ap (lam (type_at t0.types c.in-Abstraction.ty)) (sym same))
     (under-is t0 c.args.change.now meaning held.held.meant c.args.passed c.deeper-inside.result c.deeper-inside.ensures) first.number second.answered.number in
-    answers-made t0 t2 t3 c.args.change.now c.change_at-in-Abstraction.new.parts.entries c.remember-in-Ok-abstraction.new.parts.entries c.change_at-in-Abstraction.new.types.entries meaning
-    c.args.passed c.args.number _ c.in-Ok-abstraction.new c.remember-in-Ok-abstraction.result
+    answers-made t0 t2 t3 c.args.change.now c.change_at-in-Abstraction.new.parts.entries c.remember-in-Abstraction.new.parts.entries c.change_at-in-Abstraction.new.types.entries meaning
+    c.args.passed c.args.number _ c.in_ok-new-in-Abstraction.new c.remember-in-Abstraction.result
     (IsGrown-trans t0 t1 t3 c.change_type.ensures.grows (IsGrown-trans t1 t2 t3 c.change_at-in-Abstraction.ensures.grows c.abstraction.ensures.grows)) c.abstraction.ensures.grows
-    c.requires.number parts c.in-Ok-abstraction.ensures.number second.held
-    c.remember-in-Ok-abstraction.ensures.new c.remember-in-Ok-abstraction.ensures.refused c.remember-in-Ok-abstraction.ensures.added
+    c.requires.number parts c.in_ok-new-in-Abstraction.ensures.number second.held
+    c.remember-in-Abstraction.ensures.new c.remember-in-Abstraction.ensures.refused c.remember-in-Abstraction.ensures.added
 
-pub returns-in-Err-abstraction-clause-changed : goal.returns-in-Err-abstraction-clause-changed
-returns-in-Err-abstraction-clause-changed t c = λ meaning held.
+pub returns-in_err-new-in-Abstraction-clause-changed : goal.returns-in_err-new-in-Abstraction-clause-changed
+returns-in_err-new-in-Abstraction-clause-changed t c = λ meaning held.
+    let p = err_from_is_err_and c.from_residual-in_err-new-in-Abstraction.result c.from_residual-in_err-new-in-Abstraction.ensures.1 in
     let t0 = c.args.terms.now in
     let t1 = c.change_type.new.terms in
     let t2 = c.change_at-in-Abstraction.new.terms in
@@ -238,5 +243,6 @@ returns-in-Err-abstraction-clause-changed t c = λ meaning held.
     (term_at t1.terms c.in-Abstraction.body) c.in_ok-new_ty-in-Abstraction.new_ty c.in_ok-new_body-in-Abstraction.new_body
     c.change_at-in-Abstraction.ensures.grows (c.in-Abstraction.ensures.shape ∙ ap (lam (type_at t0.types c.in-Abstraction.ty)) (sym same))
     (under-is t0 c.args.change.now meaning held.held.meant c.args.passed c.deeper-inside.result c.deeper-inside.ensures) first.number second.answered.number in
-    answers-refused t2 t3 c.args.change.now c.change_at-in-Abstraction.new.parts.entries c.change_at-in-Abstraction.new.types.entries meaning _ _ c.in-Err-abstraction.fault
-    c.abstraction.ensures.grows parts c.in-Err-abstraction.ensures.refused second.held
+    rw (p.1, p.2)
+    (answers-refused t2 t3 c.args.change.now c.change_at-in-Abstraction.new.parts.entries c.change_at-in-Abstraction.new.types.entries meaning _ _ c.in_err-new-in-Abstraction.field-0.0
+    c.abstraction.ensures.grows parts c.in_err-new-in-Abstraction.ensures.refused second.held)

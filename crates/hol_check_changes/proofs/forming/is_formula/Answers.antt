@@ -1,5 +1,5 @@
 use Rattle.hol_check_changes.proofs.forming.is_formula.Goals as goal
 use Rattle.hol_check_terms.proofs.GrowthLemmas.{IsGrown-trans}
 
-pub returns-in-Ok-boolean-clause-grows : goal.returns-in-Ok-boolean-clause-grows
-returns-in-Ok-boolean-clause-grows c = IsGrown-trans c.args.terms.now c.type_of.new.terms c.boolean.new.self c.type_of.ensures.grows c.boolean.ensures.grows
+pub returns-clause-grows : goal.returns-clause-grows
+returns-clause-grows c = IsGrown-trans c.args.terms.now c.fitting_type.new.terms c.boolean.new.self c.fitting_type.ensures.grows c.boolean.ensures.grows

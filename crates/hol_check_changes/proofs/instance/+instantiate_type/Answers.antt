@@ -20,16 +20,19 @@ returns-in-Boolean-clause-changed t c = λ theta are memo.
 
 pub returns-in-Declared-clause-changed : goal.returns-in-Declared-clause-changed
 returns-in-Declared-clause-changed t c = λ theta are memo.
-    answers-kept c.args.terms.now.types (type_change theta) c.args.ty c.requires.ty (ap (type_change theta) c.in-Declared.ensures.shape ∙ sym c.in-Declared.ensures.shape) c.args.types.now.entries memo
+    answers-kept c.args.terms.now.types (type_change theta) c.args.ty c.requires.ty (ap (type_change theta) c.in-Declared.ensures.shape ∙ sym c.in-Declared.ensures.shape)
+    c.args.types.now.entries memo
 
 pub returns-in_err-new_domain-in-Function-clause-changed : goal.returns-in_err-new_domain-in-Function-clause-changed
 returns-in_err-new_domain-in-Function-clause-changed t c = λ theta are memo.
     let p = err_from_is_err_and c.from_residual.result c.from_residual.ensures.1 in
     let types = c.args.terms.now.types in
     rw (p.1, p.2)
-    (refused-type (type_change theta (type_at types c.in-Function.domain)) (type_change theta (type_at types c.args.ty)) c.in_err-new_domain-in-Function.field-0.0 c.instantiate_type.new.terms.types (type_change theta)
+    (refused-type (type_change theta (type_at types c.in-Function.domain)) (type_change theta (type_at types c.args.ty)) c.in_err-new_domain-in-Function.field-0.0
+    c.instantiate_type.new.terms.types (type_change theta)
     c.instantiate_type.new.types.entries
-    (domain-smaller theta (type_at types c.args.ty) (type_at types c.in-Function.domain) (type_at types c.in-Function.codomain) c.in-Function.ensures.shape) (c.in_err-new_domain-in-Function.ensures.changed theta are memo))
+    (domain-smaller theta (type_at types c.args.ty) (type_at types c.in-Function.domain) (type_at types c.in-Function.codomain) c.in-Function.ensures.shape)
+    (c.in_err-new_domain-in-Function.ensures.changed theta are memo))
 
 pub instantiate_type-requires-in-Function : goal.instantiate_type-requires-in-Function
 instantiate_type-requires-in-Function t c =
@@ -75,8 +78,8 @@ function_type-requires-clause-codomain t c =
     let pairs = pairs-grown c.args.terms.now.types c.instantiate_type.new.terms.types c.instantiate_type.ensures.grows.types c.args.pairs.now work.theta work.are_pairs in
     is_within _ c.in_ok-new_codomain-in-Function.new_codomain _ (c.in_ok-new_codomain-in-Function.ensures.changed work.theta pairs first.memo).number
 
-pub returns-in-Ok-clause-changed : goal.returns-in-Ok-clause-changed
-returns-in-Ok-clause-changed t c = λ theta are memo.
+pub returns-in_ok-new-in-Function-clause-changed : goal.returns-in_ok-new-in-Function-clause-changed
+returns-in_ok-new-in-Function-clause-changed t c = λ theta are memo.
     let t0 = c.args.terms.now.types in
     let t1 = c.instantiate_type.new.terms.types in
     let t2 = c.instantiate_type-in-Function.new.terms.types in
@@ -93,12 +96,13 @@ returns-in-Ok-clause-changed t c = λ theta are memo.
     let parts = function-parts t1 t2 theta (type_at t0 c.args.ty) (type_at t0 c.in-Function.domain) (type_at t0 c.in-Function.codomain) c.in_ok-new_domain-in-Function.new_domain
     c.in_ok-new_codomain-in-Function.new_codomain later c.in-Function.ensures.shape first.number
     (second.number ∙ ap (λ ty. Some (type_change theta ty)) codomain_same) in
-    answers-made t0 t2 t3 theta c.args.ty _ c.in-Ok.new c.remember_type.result c.instantiate_type-in-Function.new.types.entries c.remember_type.new.types.entries
-    (IsLonger-trans t0 t1 t3 longer (IsLonger-trans t1 t2 t3 later last)) last known parts c.in-Ok.ensures.number second.memo c.remember_type.ensures.new
+    answers-made t0 t2 t3 theta c.args.ty _ c.in_ok-new-in-Function.new c.remember_type.result c.instantiate_type-in-Function.new.types.entries c.remember_type.new.types.entries
+    (IsLonger-trans t0 t1 t3 longer (IsLonger-trans t1 t2 t3 later last)) last known parts c.in_ok-new-in-Function.ensures.number second.memo c.remember_type.ensures.new
     c.remember_type.ensures.refused c.remember_type.ensures.added
 
-pub returns-in-Err-clause-changed : goal.returns-in-Err-clause-changed
-returns-in-Err-clause-changed t c = λ theta are memo.
+pub returns-in_err-new-in-Function-clause-changed : goal.returns-in_err-new-in-Function-clause-changed
+returns-in_err-new-in-Function-clause-changed t c = λ theta are memo.
+    let p = err_from_is_err_and c.from_residual-in_err-new-in-Function.result c.from_residual-in_err-new-in-Function.ensures.1 in
     let t0 = c.args.terms.now.types in
     let t1 = c.instantiate_type.new.terms.types in
     let t2 = c.instantiate_type-in-Function.new.terms.types in
@@ -115,4 +119,6 @@ returns-in-Err-clause-changed t c = λ theta are memo.
     let parts = function-parts t1 t2 theta (type_at t0 c.args.ty) (type_at t0 c.in-Function.domain) (type_at t0 c.in-Function.codomain) c.in_ok-new_domain-in-Function.new_domain
     c.in_ok-new_codomain-in-Function.new_codomain later c.in-Function.ensures.shape first.number
     (second.number ∙ ap (λ ty. Some (type_change theta ty)) codomain_same) in
-    answers-refused t2 t3 theta (type_at t0 c.args.ty) _ c.in-Err.fault c.instantiate_type-in-Function.new.types.entries last parts c.in-Err.ensures.refused second.memo
+    rw (p.1, p.2)
+    (answers-refused t2 t3 theta (type_at t0 c.args.ty) _ c.in_err-new-in-Function.field-0.0 c.instantiate_type-in-Function.new.types.entries last parts
+    c.in_err-new-in-Function.ensures.refused second.memo)

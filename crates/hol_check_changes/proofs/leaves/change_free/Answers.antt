@@ -1,4 +1,5 @@
 use Rattle.std.proofs.Common.{subst}
+use Rattle.std.proofs.lemmas.Result.{err_from_is_err_and}
 use Rattle.hol_check_changes.specs.Change.{IsMeant}
 use Rattle.hol_check_changes.proofs.LeafLemmas.{leaf-closed, leaf-not_closed, leaf-not_filled, leaf-put, leaf-instance, leaf-instance-refused}
 use Rattle.hol_check_changes.proofs.leaves.change_free.Goals as goal
@@ -24,15 +25,17 @@ returns-in-Put-clause-changed c = λ meaning held.
     c.requires.number held
     (subst (λ x. IsMeant c.args.terms.now x meaning) c.in-Put.is held.meant) c.replaced.ensures c.requires.is_free
 
-pub returns-in-Ok-clause-changed : goal.returns-in-Ok-clause-changed
-returns-in-Ok-clause-changed c = λ meaning held.
+pub returns-in_ok-new-in-Instantiate-clause-changed : goal.returns-in_ok-new-in-Instantiate-clause-changed
+returns-in_ok-new-in-Instantiate-clause-changed c = λ meaning held.
     leaf-instance c.args.terms.now c.change_type.new.terms c.free.new.self c.args.change.now c.change_type.new.types.entries c.in-Instantiate._pairs.now meaning c.args.passed c.args.number
-    c.args.name c.args.ty c.in-Ok.new c.free.result
+    c.args.name c.args.ty c.in_ok-new-in-Instantiate.new c.free.result
     c.change_type.ensures.grows c.free.ensures.grows c.requires.name (subst (λ x. IsMeant c.args.terms.now x meaning) c.in-Instantiate.is held.meant) c.requires.is_free
-    (c.in-Ok.ensures.changed meaning held) c.free.ensures.number c.free.ensures.refused
+    (c.in_ok-new-in-Instantiate.ensures.changed meaning held) c.free.ensures.number c.free.ensures.refused
 
-pub returns-in-Err-clause-changed : goal.returns-in-Err-clause-changed
-returns-in-Err-clause-changed c = λ meaning held.
-    leaf-instance-refused c.args.terms.now c.change_type.new.terms c.args.change.now c.change_type.new.types.entries c.in-Instantiate._pairs.now meaning c.args.passed c.args.number
-    c.args.name c.args.ty c.in-Err.fault
-    (subst (λ x. IsMeant c.args.terms.now x meaning) c.in-Instantiate.is held.meant) c.requires.is_free (c.in-Err.ensures.changed meaning held)
+pub returns-in_err-new-in-Instantiate-clause-changed : goal.returns-in_err-new-in-Instantiate-clause-changed
+returns-in_err-new-in-Instantiate-clause-changed c = λ meaning held.
+    let p = err_from_is_err_and c.from_residual.result c.from_residual.ensures.1 in
+    rw (p.1, p.2)
+    (leaf-instance-refused c.args.terms.now c.change_type.new.terms c.args.change.now c.change_type.new.types.entries c.in-Instantiate._pairs.now meaning c.args.passed c.args.number
+    c.args.name c.args.ty c.in_err-new-in-Instantiate.field-0.0
+    (subst (λ x. IsMeant c.args.terms.now x meaning) c.in-Instantiate.is held.meant) c.requires.is_free (c.in_err-new-in-Instantiate.ensures.changed meaning held))
