@@ -5,10 +5,10 @@ ghost use Rattle.std.specs.Option.{IfSome};
 ghost use Rattle.hol_model.specs.declared.limits.TheConstants.{TERM_HEIGHT_LIMIT};
 ghost use Rattle.hol_model.specs.declared.fault.Fault.TheVariants.{Memory};
 ghost use Rattle.hol_model.specs.Terms.NamedTerm.{NamedTerm};
-ghost use Rattle.hol_model.specs.Terms.Nameless.{Nameless, app, lam, image, image_under, variable_image, binder_index};
+ghost use Rattle.hol_model.specs.Terms.Nameless.{Nameless, image, image_under, variable_image, binder_index};
 ghost use Rattle.hol_model.specs.Logs.LogSequents.{variable_name};
 ghost use Rattle.hol_model.specs.Logs.LogState.{term_type};
-ghost use Rattle.hol_check_terms.specs.Terms.{type_at, term_at, IsGrown};
+ghost use Rattle.hol_check_terms.specs.Terms.{TermTable, term_at, IsGrown};
 ghost use Rattle.hol_check_written.specs.Written.{IsFree, AreCounted, AreWritten};
 ghost use Rattle.hol_check_written.specs.Making.{binders_in, AreCovered, AreBinders, HasEntry, Stays, AreMade, IsWork, IsShallow, Keeps, Numbers};
 
@@ -86,42 +86,18 @@ fn variable_under(terms: &mut Terms, binders: &Binders<'_>, number: usize) -> Re
     }
 }
 
-// An application of parts that were made, which is kept.
-fn keep_application(
-    terms: &mut Terms,
+// Keeps a part that was made. Lines are within the limits, so that only memory refuses it.
+fn keep_made(
     made: &mut IndexMap<usize, usize>,
     known: &mut IndexMap<usize, usize>,
     is_apart: bool,
     line: usize,
-    function: usize,
-    argument: usize,
+    new: Result<usize, Fault>,
 ) -> Result<usize, Fault>
-    requires function { function < length terms.old.terms }
-    requires argument { argument < length terms.old.terms }
-    ensures { Keeps (app (term_at terms.old.terms function) (term_at terms.old.terms argument)) is_apart line terms.old terms.new
-        made.old.entries made.new.entries known.old.entries known.new.entries result }
+    ensures { (wanted : Nameless) (earlier now : TermTable) → IsGrown earlier now → IfOk new (λ number. slice_get now.terms number ≡ Some wanted)
+        → Keeps wanted is_apart line earlier now made.old.entries made.new.entries known.old.entries known.new.entries result }
 {
-    match terms.application(function, argument) {
-        Ok(number) => keep(made, known, is_apart, line, number),
-        Err(_fault) => Err(Fault::Memory),
-    }
-}
-
-// An abstraction of a body that was made, which is kept.
-fn keep_abstraction(
-    terms: &mut Terms,
-    made: &mut IndexMap<usize, usize>,
-    known: &mut IndexMap<usize, usize>,
-    is_apart: bool,
-    line: usize,
-    ty: usize,
-    body: usize,
-) -> Result<usize, Fault>
-    requires ty { ty < length terms.old.types }
-    requires body { body < length terms.old.terms }
-    ensures { Keeps (lam (type_at terms.old.types ty) (term_at terms.old.terms body)) is_apart line terms.old terms.new made.old.entries made.new.entries known.old.entries known.new.entries result }
-{
-    match terms.abstraction(ty, body) {
+    match new {
         Ok(number) => keep(made, known, is_apart, line, number),
         Err(_fault) => Err(Fault::Memory),
     }
@@ -156,29 +132,17 @@ fn number_under(
             let new_function = number_under(
                 alloc, terms, made, known, written, &*binders, function,
             )?;
-            match number_under(alloc, terms, made, known, written, &*binders, argument) {
-                Ok(new_argument) => {
-                    keep_application(
-                        terms,
-                        made,
-                        known,
-                        is_apart,
-                        line,
-                        new_function,
-                        new_argument,
-                    )
-                }
-                Err(fault) => Err(fault),
-            }
+            let new_argument = number_under(
+                alloc, terms, made, known, written, &*binders, argument,
+            )?;
+            let whole = terms.application(new_function, new_argument);
+            keep_made(made, known, is_apart, line, whole)
         }
         WrittenShape::Abstraction(binder, body) => {
-            match number_of_body(alloc, terms, made, written, &*binders, binder, body) {
-                Ok(new_body) => {
-                    let ty = variable_type(terms, binder);
-                    keep_abstraction(terms, made, known, is_apart, line, ty, new_body)
-                }
-                Err(fault) => Err(fault),
-            }
+            let new_body = number_of_body(alloc, terms, made, written, &*binders, binder, body)?;
+            let ty = variable_type(terms, binder);
+            let whole = terms.abstraction(ty, new_body);
+            keep_made(made, known, is_apart, line, whole)
         }
     }
 }
@@ -256,11 +220,7 @@ pub fn make(
     ensures stays { Stays made.old.entries made.new.entries }
     ensures grows { IsGrown terms.old terms.new }
 {
-    match number_of(alloc, terms, made, written, line) {
-        Ok(number) => match note(made, line, number) {
-            Ok(_number) => Ok(()),
-            Err(fault) => Err(fault),
-        },
-        Err(fault) => Err(fault),
-    }
+    let number = number_of(alloc, terms, made, written, line)?;
+    note(made, line, number)?;
+    Ok(())
 }

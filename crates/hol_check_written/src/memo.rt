@@ -37,10 +37,8 @@ pub(crate) fn note(
     ensures stays { Stays parts.old.entries parts.new.entries }
     ensures there { OnOk result (HasEntry parts.new.entries line) }
 {
-    match parts.insert(line, number) {
-        Ok(_replaced) => Ok(number),
-        Err(_failed) => Err(Fault::Memory),
-    }
+    parts.insert(line, number)?;
+    Ok(number)
 }
 
 /// Notes the number of a line's term, for good where no binder's variable stands in it.

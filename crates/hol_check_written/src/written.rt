@@ -43,16 +43,14 @@ pub fn write_variable(alloc: Global, terms: &mut Terms, number: usize) -> Result
     requires { IsFree terms.old.terms number }
     ensures { AnswersWritten (named.variable (variable_name (term_at terms.old.terms number)) (term_type (term_at terms.old.terms number))) (shape.Variable number) result terms.old terms.new }
 {
-    match type_of(alloc, terms, number) {
-        Ok(ty) => Ok(Written {
-            shape: WrittenShape::Variable(number),
-            ty,
-            height: 1,
-            nodes: 1,
-            variables: one_variable(number),
-        }),
-        Err(fault) => Err(fault),
-    }
+    let ty = type_of(alloc, terms, number)?;
+    Ok(Written {
+        shape: WrittenShape::Variable(number),
+        ty,
+        height: 1,
+        nodes: 1,
+        variables: one_variable(number),
+    })
 }
 
 /// A constant by its number in the tables, refused where its type is past the limit.
@@ -60,16 +58,14 @@ pub fn write_constant(alloc: Global, terms: &mut Terms, number: usize) -> Result
     requires { IsConstant terms.old.terms number }
     ensures { AnswersWritten (named_constant (term_at terms.old.terms number)) (shape.Constant number) result terms.old terms.new }
 {
-    match type_of(alloc, terms, number) {
-        Ok(ty) => Ok(Written {
-            shape: WrittenShape::Constant(number),
-            ty,
-            height: 1,
-            nodes: 1,
-            variables: no_variable(),
-        }),
-        Err(fault) => Err(fault),
-    }
+    let ty = type_of(alloc, terms, number)?;
+    Ok(Written {
+        shape: WrittenShape::Constant(number),
+        ty,
+        height: 1,
+        nodes: 1,
+        variables: no_variable(),
+    })
 }
 
 /// The application of the term of a line to that of another, which its function takes; refused where it passes a limit.
@@ -120,9 +116,7 @@ fn codomain(terms: &Terms, ty: usize) -> usize
 {
     match terms.type_shape(ty) {
         TypeShape::Function(_domain, answer) => answer,
-        TypeShape::Variable(_name) => unreachable!(),
-        TypeShape::Boolean => unreachable!(),
-        TypeShape::Declared(_name) => unreachable!(),
+        _ => unreachable!(),
     }
 }
 
@@ -164,9 +158,6 @@ pub(crate) fn variable_type(terms: &Terms, number: usize) -> usize
 {
     match terms.shape(number) {
         TermShape::Free(_name, ty) => ty,
-        TermShape::Constant(_name, _ty) => unreachable!(),
-        TermShape::Bound(_index) => unreachable!(),
-        TermShape::Application(_function, _argument) => unreachable!(),
-        TermShape::Abstraction(_ty, _body) => unreachable!(),
+        _ => unreachable!(),
     }
 }

@@ -72,49 +72,57 @@ number_under-number_under-requires-in-Application t c =
       ),
     )
 
-pub number_under-keep_application-requires-clause-function : goal.number_under-keep_application-requires-clause-function
-number_under-keep_application-requires-clause-function t c =
+pub number_under-application-whole-requires-clause-function : goal.number_under-application-whole-requires-clause-function
+number_under-application-whole-requires-clause-function t c =
     within-grown c.number_under.new.terms c.number_under-in-Application.new.terms c.in_ok-new_function-in-Application.new_function c.number_under-in-Application.ensures.grows
     (is_within c.number_under.new.terms.terms c.in_ok-new_function-in-Application.new_function _ c.in_ok-new_function-in-Application.ensures.number)
 
-pub number_under-keep_application-requires-clause-argument : goal.number_under-keep_application-requires-clause-argument
-number_under-keep_application-requires-clause-argument t c = is_within c.number_under-in-Application.new.terms.terms c.in-Ok.new_argument _ c.in-Ok.ensures.number
+pub number_under-application-whole-requires-clause-argument : goal.number_under-application-whole-requires-clause-argument
+number_under-application-whole-requires-clause-argument t c = is_within c.number_under-in-Application.new.terms.terms c.in_ok-new_argument-in-Application.new_argument _
+    c.in_ok-new_argument-in-Application.ensures.number
 
-pub number_under-returns-in-Ok : goal.number_under-returns-in-Ok
-number_under-returns-in-Ok t c =
+pub number_under-returns-in_ok-new_argument-in-Application : goal.number_under-returns-in_ok-new_argument-in-Application
+number_under-returns-in_ok-new_argument-in-Application t c =
     let t0 = c.args.terms.now in
     let t1 = c.number_under.new.terms in
     let t2 = c.number_under-in-Application.new.terms in
     let binders = c.args.binders.now in
     let written = c.args.written.now in
-    kept-numbers t0 t2 c.keep_application.new.terms written (binders_in t0.terms binders) c.args.line c.args.made.now.entries c.number_under-in-Application.new.made.entries
-    c.keep_application.new.made.entries
-    c.number_under-in-Application.new.known.entries c.keep_application.new.known.entries c.is_apart-is_apart.result _ c.keep_application.result
-    c.requires.work.written_are c.requires.line (IsGrown-trans t0 t1 t2 c.in_ok-new_function-in-Application.ensures.grows c.in-Ok.ensures.grows) c.in-Ok.ensures.made_are
-    (subst (λ around. AreNumbered t2 written around c.number_under-in-Application.new.known.entries) (binders-still t0 t1 c.in_ok-new_function-in-Application.ensures.grows binders c.requires.work.binders_are)
-    c.in-Ok.ensures.known_are)
-    (Stays-trans c.args.made.now.entries c.number_under.new.made.entries c.number_under-in-Application.new.made.entries c.in_ok-new_function-in-Application.ensures.stays c.in-Ok.ensures.stays)
+    kept-numbers t0 t2 c.application-whole.new.self written (binders_in t0.terms binders) c.args.line c.args.made.now.entries c.number_under-in-Application.new.made.entries
+    c.keep_made.new.made.entries
+    c.number_under-in-Application.new.known.entries c.keep_made.new.known.entries c.is_apart-is_apart.result _ c.keep_made.result
+    c.requires.work.written_are c.requires.line (IsGrown-trans t0 t1 t2 c.in_ok-new_function-in-Application.ensures.grows c.in_ok-new_argument-in-Application.ensures.grows)
+    c.in_ok-new_argument-in-Application.ensures.made_are
+    (subst (λ around. AreNumbered t2 written around c.number_under-in-Application.new.known.entries) (binders-still t0 t1 c.in_ok-new_function-in-Application.ensures.grows
+    binders c.requires.work.binders_are)
+    c.in_ok-new_argument-in-Application.ensures.known_are)
+    (Stays-trans c.args.made.now.entries c.number_under.new.made.entries c.number_under-in-Application.new.made.entries c.in_ok-new_function-in-Application.ensures.stays
+    c.in_ok-new_argument-in-Application.ensures.stays)
     (application-made t0 t1 written binders c.args.line c.args.made.now.entries c.args.known.now.entries c.requires.work _ (slice_get-get_or written c.args.line _ c.requires.line)
     c.in_ok-new_function-in-Application.ensures.grows t2
-    c.in-Application.function c.in-Application.argument c.in_ok-new_function-in-Application.new_function c.in-Ok.new_argument c.in-Application.is c.in-Ok.ensures.grows c.in_ok-new_function-in-Application.ensures.number
-    c.in-Ok.ensures.number)
+    c.in-Application.function c.in-Application.argument c.in_ok-new_function-in-Application.new_function c.in_ok-new_argument-in-Application.new_argument c.in-Application.is
+    c.in_ok-new_argument-in-Application.ensures.grows c.in_ok-new_function-in-Application.ensures.number
+    c.in_ok-new_argument-in-Application.ensures.number)
     (λ known. c.is_apart-is_apart.ensures known _ (c.requires.work.written_are c.args.line _ (slice_get-get_or written c.args.line _ c.requires.line)).writes.counted)
-    c.keep_application.ensures
+    (c.keep_made.ensures _ t2 c.application-whole.new.self c.application-whole.ensures.grows c.application-whole.ensures.number)
 
-pub number_under-returns-in-Err : goal.number_under-returns-in-Err
-number_under-returns-in-Err t c =
+pub number_under-returns-in_err-new_argument-in-Application : goal.number_under-returns-in_err-new_argument-in-Application
+number_under-returns-in_err-new_argument-in-Application t c =
+    let p = err_from_is_err_and c.from_residual-in_err-new_argument-in-Application.result c.from_residual-in_err-new_argument-in-Application.ensures.1 in
     let t0 = c.args.terms.now in
     let t1 = c.number_under.new.terms in
     let t2 = c.number_under-in-Application.new.terms in
-    record {
+    rw (p.1, p.2)
+    (record {
       number = tt;
-      refused = c.in-Err.ensures.refused;
-      grows = IsGrown-trans t0 t1 t2 c.in_ok-new_function-in-Application.ensures.grows c.in-Err.ensures.grows;
-      made_are = c.in-Err.ensures.made_are;
+      refused = c.in_err-new_argument-in-Application.ensures.refused;
+      grows = IsGrown-trans t0 t1 t2 c.in_ok-new_function-in-Application.ensures.grows c.in_err-new_argument-in-Application.ensures.grows;
+      made_are = c.in_err-new_argument-in-Application.ensures.made_are;
       known_are = subst (λ around. AreNumbered t2 c.args.written.now around c.number_under-in-Application.new.known.entries)
-          (binders-still t0 t1 c.in_ok-new_function-in-Application.ensures.grows c.args.binders.now c.requires.work.binders_are) c.in-Err.ensures.known_are;
-      stays = Stays-trans c.args.made.now.entries c.number_under.new.made.entries c.number_under-in-Application.new.made.entries c.in_ok-new_function-in-Application.ensures.stays c.in-Err.ensures.stays;
-    }
+          (binders-still t0 t1 c.in_ok-new_function-in-Application.ensures.grows c.args.binders.now c.requires.work.binders_are) c.in_err-new_argument-in-Application.ensures.known_are;
+      stays = Stays-trans c.args.made.now.entries c.number_under.new.made.entries c.number_under-in-Application.new.made.entries
+          c.in_ok-new_function-in-Application.ensures.stays c.in_err-new_argument-in-Application.ensures.stays;
+    })
 
 pub number_under-returns-in_err-new_function-in-Application : goal.number_under-returns-in_err-new_function-in-Application
 number_under-returns-in_err-new_function-in-Application t c =
@@ -158,43 +166,47 @@ number_under-number_of_body-requires t c =
 
 pub number_under-variable_type-ty-requires : goal.number_under-variable_type-ty-requires
 number_under-variable_type-ty-requires t c =
-    free-grown c.args.terms.now c.number_of_body.new.terms c.in-Ok-number_of_body.ensures.grows c.in-Abstraction.binder
+    free-grown c.args.terms.now c.number_of_body.new.terms c.in_ok-new_body-in-Abstraction.ensures.grows c.in-Abstraction.binder
     (parts-here c.args.terms.now c.args.written.now c.args.binders.now c.args.line c.args.made.now.entries c.args.known.now.entries c.requires.work _
     (slice_get-get_or c.args.written.now c.args.line _ c.requires.line) (Abstraction c.in-Abstraction.binder c.in-Abstraction.body) c.in-Abstraction.is).0
 
-pub number_under-keep_abstraction-requires-clause-body : goal.number_under-keep_abstraction-requires-clause-body
-number_under-keep_abstraction-requires-clause-body t c = is_within c.number_of_body.new.terms.terms c.in-Ok-number_of_body.new_body _ c.in-Ok-number_of_body.ensures.number
+pub number_under-abstraction-whole-requires-clause-body : goal.number_under-abstraction-whole-requires-clause-body
+number_under-abstraction-whole-requires-clause-body t c = is_within c.number_of_body.new.terms.terms c.in_ok-new_body-in-Abstraction.new_body _ c.in_ok-new_body-in-Abstraction.ensures.number
 
-pub number_under-returns-in-Ok-number_of_body : goal.number_under-returns-in-Ok-number_of_body
-number_under-returns-in-Ok-number_of_body t c =
+pub number_under-returns-in_ok-new_body-in-Abstraction : goal.number_under-returns-in_ok-new_body-in-Abstraction
+number_under-returns-in_ok-new_body-in-Abstraction t c =
     let t0 = c.args.terms.now in
     let t1 = c.number_of_body.new.terms in
     let binders = c.args.binders.now in
     let written = c.args.written.now in
-    kept-numbers t0 t1 c.keep_abstraction.new.terms written (binders_in t0.terms binders) c.args.line c.args.made.now.entries c.number_of_body.new.made.entries c.keep_abstraction.new.made.entries
-    c.args.known.now.entries c.keep_abstraction.new.known.entries c.is_apart-is_apart.result _ c.keep_abstraction.result
-    c.requires.work.written_are c.requires.line c.in-Ok-number_of_body.ensures.grows c.in-Ok-number_of_body.ensures.made_are
-    (numbered-grown t0 t1 c.in-Ok-number_of_body.ensures.grows written c.requires.work.written_are (binders_in t0.terms binders) c.args.known.now.entries c.requires.work.known_are)
-    c.in-Ok-number_of_body.ensures.stays
+    kept-numbers t0 t1 c.abstraction-whole.new.self written (binders_in t0.terms binders) c.args.line c.args.made.now.entries c.number_of_body.new.made.entries
+    c.keep_made-in-Abstraction.new.made.entries
+    c.args.known.now.entries c.keep_made-in-Abstraction.new.known.entries c.is_apart-is_apart.result _ c.keep_made-in-Abstraction.result
+    c.requires.work.written_are c.requires.line c.in_ok-new_body-in-Abstraction.ensures.grows c.in_ok-new_body-in-Abstraction.ensures.made_are
+    (numbered-grown t0 t1 c.in_ok-new_body-in-Abstraction.ensures.grows written c.requires.work.written_are (binders_in t0.terms binders) c.args.known.now.entries c.requires.work.known_are)
+    c.in_ok-new_body-in-Abstraction.ensures.stays
     (abstraction-made t0 t1 written binders c.args.line c.args.made.now.entries c.args.known.now.entries c.requires.work _ (slice_get-get_or written c.args.line _ c.requires.line)
-    c.in-Ok-number_of_body.ensures.grows
-    c.in-Abstraction.binder c.in-Abstraction.body c.variable_type-ty.result c.in-Ok-number_of_body.new_body c.in-Abstraction.is c.variable_type-ty.ensures.ty c.in-Ok-number_of_body.ensures.number)
+    c.in_ok-new_body-in-Abstraction.ensures.grows
+    c.in-Abstraction.binder c.in-Abstraction.body c.variable_type-ty.result c.in_ok-new_body-in-Abstraction.new_body c.in-Abstraction.is c.variable_type-ty.ensures.ty
+    c.in_ok-new_body-in-Abstraction.ensures.number)
     (λ known. c.is_apart-is_apart.ensures known _ (c.requires.work.written_are c.args.line _ (slice_get-get_or written c.args.line _ c.requires.line)).writes.counted)
-    c.keep_abstraction.ensures
+    (c.keep_made-in-Abstraction.ensures _ t1 c.abstraction-whole.new.self c.abstraction-whole.ensures.grows c.abstraction-whole.ensures.number)
 
-pub number_under-returns-in-Err-number_of_body : goal.number_under-returns-in-Err-number_of_body
-number_under-returns-in-Err-number_of_body t c =
+pub number_under-returns-in_err-new_body-in-Abstraction : goal.number_under-returns-in_err-new_body-in-Abstraction
+number_under-returns-in_err-new_body-in-Abstraction t c =
+    let p = err_from_is_err_and c.from_residual-in_err-new_body-in-Abstraction.result c.from_residual-in_err-new_body-in-Abstraction.ensures.1 in
     let t0 = c.args.terms.now in
     let t1 = c.number_of_body.new.terms in
-    record {
+    rw (p.1, p.2)
+    (record {
       number = tt;
-      refused = c.in-Err-number_of_body.ensures.refused;
-      grows = c.in-Err-number_of_body.ensures.grows;
-      made_are = c.in-Err-number_of_body.ensures.made_are;
-      known_are = numbered-grown t0 t1 c.in-Err-number_of_body.ensures.grows c.args.written.now c.requires.work.written_are (binders_in t0.terms c.args.binders.now) c.args.known.now.entries
+      refused = c.in_err-new_body-in-Abstraction.ensures.refused;
+      grows = c.in_err-new_body-in-Abstraction.ensures.grows;
+      made_are = c.in_err-new_body-in-Abstraction.ensures.made_are;
+      known_are = numbered-grown t0 t1 c.in_err-new_body-in-Abstraction.ensures.grows c.args.written.now c.requires.work.written_are (binders_in t0.terms c.args.binders.now) c.args.known.now.entries
           c.requires.work.known_are;
-      stays = c.in-Err-number_of_body.ensures.stays;
-    }
+      stays = c.in_err-new_body-in-Abstraction.ensures.stays;
+    })
 
 -- the body of an abstraction
 

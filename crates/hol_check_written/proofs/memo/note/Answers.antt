@@ -6,12 +6,12 @@ use Rattle.hol_check_terms.proofs.MemoLemmas.{insert-added}
 use Rattle.hol_check_written.proofs.MemoLemmas.{noted-there, noted-stays}
 use Rattle.hol_check_written.proofs.memo.note.Goals as goal
 
-pub returns-in-Ok-clause-added : goal.returns-in-Ok-clause-added
-returns-in-Ok-clause-added c = subst (λ l. HasOnlyAdded c.args.parts.now.entries l c.args.line c.args.number) (sym c.in-Ok.ensures.entries)
+pub returns-clause-added : goal.returns-clause-added
+returns-clause-added c = subst (λ l. HasOnlyAdded c.args.parts.now.entries l c.args.line c.args.number) (sym c.in_ok-insert.ensures.entries)
     (insert-added nat_eq eqb-true c.args.parts.now.entries c.args.line c.args.number)
 
-pub returns-in-Ok-clause-stays : goal.returns-in-Ok-clause-stays
-returns-in-Ok-clause-stays c = noted-stays c.args.parts.now.entries c.insert.new.self.entries c.args.line c.args.number c.in-Ok.ensures.entries
+pub returns-clause-stays : goal.returns-clause-stays
+returns-clause-stays c = noted-stays c.args.parts.now.entries c.insert.new.self.entries c.args.line c.args.number c.in_ok-insert.ensures.entries
 
-pub returns-in-Ok-clause-there : goal.returns-in-Ok-clause-there
-returns-in-Ok-clause-there c = noted-there c.args.parts.now.entries c.insert.new.self.entries c.args.line c.args.number c.in-Ok.ensures.entries
+pub returns-clause-there : goal.returns-clause-there
+returns-clause-there c = noted-there c.args.parts.now.entries c.insert.new.self.entries c.args.line c.args.number c.in_ok-insert.ensures.entries
