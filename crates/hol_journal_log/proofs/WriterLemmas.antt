@@ -293,6 +293,10 @@ pub function_at : (ty a b : HolType) (w : Written) (d c n : ℕ) → function_ty
     → IsTypeWritten w w a d → IsTypeWritten w w b c → IsTypeWritten w w ty n
 function_at ty a b w d c n is put first second = subst (λ t. IsTypeWritten w w t n) is (function_written a b w w w w d c n first second put)
 
+-- a function type of these parts
+pub function-is : (ty a b s t : HolType) → function_type a b ≡ ty → a ≡ s → b ≡ t → ty ≡ function_type s t
+function-is ty a b s t is one two = sym is ∙ (λ i. function_type (one i) (two i))
+
 -- a type that passes the test for equality
 pub type-is : (ty other : HolType) (w : Written) (n : ℕ) → type_eq ty other ≡ true → IsTypeWritten w w other n → IsTypeWritten w w ty n
 type-is ty other w n same written = subst (λ (t : HolType). IsTypeWritten w w t n) (sym (same_from_type_eq ty other same)) written

@@ -2,6 +2,7 @@
 #![tactic(auto)]
 
 mod claim;
+mod connectives;
 mod fitting;
 mod log;
 mod log_laws;

@@ -2,6 +2,7 @@
 ghost use Rattle.std.specs.Prelude.{◌≡◌, ◌+◌, length, List, [], ◌∷◌, ◌++◌, nat_eq, map, Some, slice_get, IfOk, IfErr, IfSome, OnOk, IsTrue, IsFalse};
 ghost use Rattle.std.specs.List.{list_any};
 ghost use Rattle.hol_model.specs.Terms.HolType.{bool_type};
+ghost use Rattle.hol_model.specs.Logic.Logic.{unary, binary};
 ghost use Rattle.hol_model.specs.Terms.NamedTerm.{NamedTerm};
 ghost use Rattle.hol_model.specs.Logs.LogLine.{LogLine};
 ghost use Rattle.hol_model.specs.Logs.LogLine.LogLine.{header_line, theorem_line, end_line};
@@ -22,6 +23,7 @@ ghost use Rattle.hol_journal_log.specs.Claims.{claims_of};
 ghost use Rattle.hol_journal_log.specs.Writer.{line_of_type, line_of_term, written};
 
 use crate::claim::Claim;
+use crate::connectives::is_binary;
 use crate::mark::mark_of;
 use crate::needed::Names;
 use hol_journal::Recorder;
@@ -100,6 +102,9 @@ impl<'a> TermLine<'a> {
         }
     }
 }
+
+// How many types are looked through for that of connectives.
+const FIRST_TYPES: u32 = 8;
 
 /// The lines of a log so far. The places of types, terms and theorems are their numbers.
 #[derive(Drop)]
@@ -236,42 +241,107 @@ impl<'a> Writer<'a> {
         }
     }
 
+    // The same. Nothing is called for the type `bool`.
+    fn has_type(&self, number: u32, ty: &Ty) -> bool
+        ensures { IsTrue result → IsTypeWritten (written self.now) (written self.now) ty.now number }
+    {
+        if ty.is_bool() {
+            return self.is_bool_at(number);
+        }
+        self.is_type_at(number, ty)
+    }
+
+    // Whether the type of connectives of one formula is written under a number.
+    fn is_unary_at(&self, number: u32) -> bool
+        ensures { IsTrue result → IsTypeWritten (written self.now) (written self.now) unary number }
+    {
+        match self.type_line(number) {
+            Some(TypeLine::Function(first, second)) => {
+                self.is_bool_at(first) && self.is_bool_at(second)
+            }
+            _ => false,
+        }
+    }
+
+    // Whether the type of connectives of two formulas is written under a number.
+    fn is_binary_at(&self, number: u32) -> bool
+        ensures { IsTrue result → IsTypeWritten (written self.now) (written self.now) binary number }
+    {
+        match self.type_line(number) {
+            Some(TypeLine::Function(first, second)) => {
+                self.is_bool_at(first) && self.is_unary_at(second)
+            }
+            _ => false,
+        }
+    }
+
+    // The number of the type of connectives of two formulas, where it is among the first.
+    fn binary_number(&self) -> Option<u32>
+        ensures { IfSome result (IsTypeWritten (written self.now) (written self.now) binary) }
+    {
+        for number in 0..FIRST_TYPES {
+            if self.is_binary_at(number) {
+                return Some(number);
+            }
+        }
+        None
+    }
+
+    // Whether a type is written under a number, where that of connectives is known.
+    fn has_constant_type(&self, connective: Option<u32>, number: u32, ty: &Ty) -> bool
+        requires { IfSome connective (IsTypeWritten (written self.now) (written self.now) binary) }
+        ensures { IsTrue result → IsTypeWritten (written self.now) (written self.now) ty.now number }
+    {
+        if let Some(known) = connective {
+            if known == number && is_binary(ty) {
+                return true;
+            }
+        }
+        self.has_type(number, ty)
+    }
+
     // Whether a variable is written under a number.
     fn is_variable_at(&self, number: u32, name: &str, ty: &Ty) -> bool
         ensures { IsTrue result → IsTermWritten (written self.now) (written self.now) (variable name.now ty.now) number }
     {
         match self.term_line(number) {
-            Some(TermLine::Variable(written, of)) => written == name && self.is_type_at(of, ty),
+            Some(TermLine::Variable(written, of)) => written == name && self.has_type(of, ty),
             _ => false,
         }
     }
 
     // Whether a constant is written under a number.
-    fn is_constant_at(&self, number: u32, name: &str, ty: &Ty) -> bool
+    fn is_constant_at(&self, connective: Option<u32>, number: u32, name: &str, ty: &Ty) -> bool
+        requires { IfSome connective (IsTypeWritten (written self.now) (written self.now) binary) }
         ensures { IsTrue result → IsTermWritten (written self.now) (written self.now) (constant name.now ty.now) number }
     {
         match self.term_line(number) {
-            Some(TermLine::Constant(written, of)) => written == name && self.is_type_at(of, ty),
+            Some(TermLine::Constant(written, of)) => {
+                written == name && self.has_constant_type(connective, of, ty)
+            }
             _ => false,
         }
     }
 
     // Whether a term is written under a number.
-    fn is_term_at(&self, number: u32, term: &Term) -> bool
+    fn is_term_at(&self, connective: Option<u32>, number: u32, term: &Term) -> bool
+        requires { IfSome connective (IsTypeWritten (written self.now) (written self.now) binary) }
         ensures { IsTrue result → IsTermWritten (written self.now) (written self.now) term.now number }
     {
         match term.parts() {
             Parts::Variable(name, ty) => self.is_variable_at(number, name, ty),
-            Parts::Constant(name, ty) => self.is_constant_at(number, name, ty),
+            Parts::Constant(name, ty) => self.is_constant_at(connective, number, name, ty),
             Parts::Combination(function, argument) => match self.term_line(number) {
                 Some(TermLine::Combination(first, second)) => {
-                    self.is_term_at(first, function) && self.is_term_at(second, argument)
+                    self.is_term_at(connective, first, function)
+                        && self.is_term_at(connective, second, argument)
                 }
                 _ => false,
             },
             Parts::Abstraction(name, ty, body) => match self.term_line(number) {
                 Some(TermLine::Abstraction(first, second)) => {
-                    self.is_variable_at(first, name, ty) && self.is_term_at(second, body)
+                    self.is_variable_at(first, name, ty)
+                        && self.is_term_at(connective, second, body)
                 }
                 _ => false,
             },
@@ -283,11 +353,26 @@ impl<'a> Writer<'a> {
         ensures { IfSome result (IsTermWritten (written self.now) (written self.now) term.now) }
     {
         let (_, _, hint) = self.hints.get_full(&mark)?;
-        if self.is_term_at(*hint, term) {
+        if self.is_term_at(self.binary_number(), *hint, term) {
             Some(*hint)
         } else {
             None
         }
+    }
+
+    // The number of a term, where it is the next of some numbers, or the one behind that. The place moves behind it.
+    fn number_among(&self, numbers: &[u32], place: &mut usize, term: &Term) -> Option<u32>
+        ensures { IfSome result (IsTermWritten (written self.now) (written self.now) term.now) }
+    {
+        for ahead in 0..2 {
+            let at = place.wrapping_add(ahead);
+            let number = *numbers.get(at)?;
+            if self.is_term_at(None, number, term) {
+                *place = at.wrapping_add(1);
+                return Some(number);
+            }
+        }
+        None
     }
 
     // Writes a term, unless it is known to be written.
@@ -370,18 +455,52 @@ impl<'a> Writer<'a> {
         }
     }
 
-    // Writes terms, from left to right.
-    fn term_numbers(&mut self, terms: &'a [Term], numbers: &mut Vec<u32>) -> Result<(), Fault>
+    // Writes a term, which may be among some numbers from a place on.
+    fn term_number_near(
+        &mut self,
+        numbers: &[u32],
+        place: &mut usize,
+        term: &'a Term,
+    ) -> Result<u32, Fault>
+        ensures ok { IfOk result (IsTermWritten (written self.old) (written self.new) term.now) }
+        ensures named { OnOk result (KeepsNames (written self.old) (written self.new)) }
+        ensures err { IfErr result (λ fault. fault ≡ Memory) }
+    {
+        if let Some(number) = self.number_among(numbers, place, term) {
+            return Ok(number);
+        }
+        self.term_number(term)
+    }
+
+    // Writes terms, from left to right. Many of them may have some numbers, in their order.
+    fn term_numbers(
+        &mut self,
+        terms: &'a [Term],
+        known: &[u32],
+        numbers: &mut Vec<u32>,
+    ) -> Result<(), Fault>
         ensures ok { (old : Written) (before : List NamedTerm) → AreTermsWritten old (written self.old) before numbers.old.items
             → OnOk result (AreTermsWritten old (written self.new) (before ++ terms.now) numbers.new.items) }
         ensures named { OnOk result (KeepsNames (written self.old) (written self.new)) }
         ensures err { IfErr result (λ fault. fault ≡ Memory) }
     {
+        let mut place = 0;
         for term in terms {
-            let number = self.term_number(term)?;
+            let number = self.term_number_near(known, &mut place, term)?;
             numbers.push(number)?;
         }
         Ok(())
+    }
+
+    // The numbers of the hypotheses of the last line, where it is a claim.
+    fn last_hypotheses(&self, alloc: Global) -> Result<Vec<u32>, Fault>
+        ensures err { IfErr result (λ fault. fault ≡ Memory) }
+    {
+        let mut numbers = Vec::new(alloc);
+        if let Some(Line::Claim(_, _, _, hypotheses)) = self.lines.last() {
+            numbers.extend_from_slice(hypotheses)?;
+        }
+        Ok(numbers)
     }
 
     // Writes pairs of terms, from left to right.
@@ -545,8 +664,9 @@ impl<'a> Writer<'a> {
         ensures err { IfErr result (λ fault. fault ≡ Memory) }
     {
         let mut hypotheses = Vec::new(alloc);
+        let known = self.last_hypotheses(alloc)?;
         let conclusion = self.term_number(theorem.concl())?;
-        self.term_numbers(theorem.hyps(), &mut hypotheses)?;
+        self.term_numbers(theorem.hyps(), &known, &mut hypotheses)?;
         let theorem = self.theorem_number(entry)?;
         self.put_line(Line::Claim(name, theorem, conclusion, hypotheses))
     }
