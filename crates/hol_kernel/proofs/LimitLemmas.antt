@@ -111,6 +111,29 @@ equation-limited result a b ty typed same answered =
     subst (λ w. Answers result w)
     (ap (λ o. unless (is_some o) TypeMismatch (limited (equation a b))) (equation-typed a b ty typed (sym same ∙ typed))) answered
 
+-- an equation of formulas, as `=` of formulas applied to one side, and then to the other
+
+pub half-is : (of_formulas a : NamedTerm) → of_formulas ≡ equality (Some bool_type) → type_of a ≡ Some bool_type → combination of_formulas a ≡ combination (equality (type_of a)) a
+half-is of_formulas a is typed = ap (λ f. combination f a) (is ∙ ap equality (sym typed))
+
+pub half-typed : (of_formulas a : NamedTerm) → of_formulas ≡ equality (Some bool_type) → type_of a ≡ Some bool_type
+    → type_of (combination of_formulas a) ≡ Some (function_type bool_type bool_type)
+half-typed of_formulas a is typed = ap (λ f. application_type (type_of f) (type_of a)) is ∙ ap (λ o. application_type (type_of (equality (Some bool_type))) o) typed
+
+pub half-refused : (of_formulas a b : NamedTerm) (fault : Fault) → of_formulas ≡ equality (Some bool_type) → type_of a ≡ Some bool_type
+    → limited (combination of_formulas a) ≡ Err fault → limited (equation a b) ≡ Err fault
+half-refused of_formulas a b fault is typed refused =
+    go (is_within_limits (combination (equality (type_of a)) a)) refl (subst (λ t. limited t ≡ Err fault) (half-is of_formulas a is typed) refused)
+  where
+    inside : is_within_limits (equation a b) ≡ true → is_within_limits (combination (equality (type_of a)) a) ≡ true
+    inside = within (combination (equality (type_of a)) a) (equation a b) (omega arith) (omega arith) (λ fits. first_of_both (types_fit (equality (type_of a)) && types_fit a) (types_fit b) fits)
+    go : (test : Bool) → is_within_limits (combination (equality (type_of a)) a) ≡ test → unless test TooLarge (Ok (combination (equality (type_of a)) a)) ≡ Err fault
+        → limited (equation a b) ≡ Err fault
+    go true is refused = cc
+    go false is refused =
+        let same : TooLarge ≡ fault = cc in
+        rw (past (is_within_limits (combination (equality (type_of a)) a)) (is_within_limits (equation a b)) inside is) (ap Err same)
+
 -- an application as the program makes it
 pub record IsApplied (function argument made : NamedTerm) : Type 0 where
   pub ty : HolType

@@ -1,6 +1,7 @@
 // Equations, taken apart and made.
-ghost use Rattle.std.specs.Prelude.{◌≡◌, IsSome, IfSome};
+ghost use Rattle.std.specs.Prelude.{◌≡◌, Some, IsSome, IfSome};
 ghost use Rattle.std.specs.Option.{option_map, is_some};
+ghost use Rattle.hol_model.specs.Terms.HolType.{bool_type};
 ghost use Rattle.hol_model.specs.Terms.NamedTerm.{type_of};
 ghost use Rattle.hol_model.specs.Terms.NamedTerm as spec;
 ghost use Rattle.hol_model.specs.Kernel.Rules as rules;
@@ -61,6 +62,24 @@ pub fn equation(alloc: Global, left: &Term, right: &Term) -> Result<Term, Fault>
 {
     let _typed = left.ty();
     mk_eq(alloc, left, right)
+}
+
+/// The equation of two terms of one type, as `equation`; that of formulas takes the constant, `=` of formulas, and makes no other.
+pub fn equation_by(
+    alloc: Global,
+    equality: &Term,
+    left: &Term,
+    right: &Term,
+) -> Result<Term, Fault>
+    requires typed { type_of left.now ≡ type_of right.now }
+    requires equality { equality.now ≡ spec.equality (Some bool_type) }
+    ensures { Answers result (rules.limited (spec.equation left.now right.now)) }
+{
+    if !left.ty().is_bool() {
+        return equation(alloc, left, right);
+    }
+    let applied = combination(alloc, equality, left)?;
+    combination(alloc, &applied, right)
 }
 
 /// A function applied to an argument.

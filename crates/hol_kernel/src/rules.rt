@@ -14,7 +14,7 @@ ghost use Rattle.hol_kernel.specs.Fits.{TransFits, EqMpFits, DeductFits};
 
 use crate::entries::Entries;
 use crate::equation::{
-    abstraction, application, combination, dest_eq, dest_trivial_redex, equation, equation_parts,
+    abstraction, application, combination, dest_eq, dest_trivial_redex, equation_by, equation_parts,
 };
 use crate::hypotheses::{
     copies, is_free_in_hypotheses, one_hypothesis, with_hypotheses, without_hypothesis,
@@ -31,19 +31,19 @@ use std::alloc::Global;
 // The theorem `left = right`, where it is shown to be one.
 fn equation_theorem(
     alloc: Global,
-    entries: &Entries,
+    theory: &Theory,
     hypotheses: Vec<Term>,
     left: &Term,
     right: &Term,
 ) -> Result<Thm, Fault>
     requires typed { type_of left.now ≡ type_of right.now }
-    requires theorem { (ty : HolType) → type_of left.now ≡ Some ty → IsTheorem (record { theory = entries.now; hypotheses = hypotheses.items; conclusion = equation left.now right.now }) }
-    ensures outcome { Answers result (outcome.concluded entries.now hypotheses.items (equation left.now right.now)) }
-    ensures stands_on { IfOk result (λ answer. answer.theory ≡ entries.now) }
+    requires theorem { (ty : HolType) → type_of left.now ≡ Some ty → IsTheorem (record { theory = theory.now; hypotheses = hypotheses.items; conclusion = equation left.now right.now }) }
+    ensures outcome { Answers result (outcome.concluded theory.now hypotheses.items (equation left.now right.now)) }
+    ensures stands_on { IfOk result (λ answer. answer.theory ≡ theory.now) }
 {
     let _typed = left.ty();
-    let conclusion = equation(alloc, left, right)?;
-    Thm::new(alloc, entries, hypotheses, conclusion)
+    let conclusion = equation_by(alloc, theory.formula_equality(), left, right)?;
+    Thm::new(alloc, theory.entries(), hypotheses, conclusion)
 }
 
 // The theorem that is a function applied to an argument, where it is shown to be one.
@@ -82,7 +82,7 @@ impl Theory {
         ensures outcome { Answers result (outcome.refl_outcome self.now term.now) }
         ensures stands_on { IfOk result (λ answer. answer.theory ≡ self.now) }
     {
-        equation_theorem(alloc, self.entries(), Vec::new(alloc), term, term)
+        equation_theorem(alloc, self, Vec::new(alloc), term, term)
     }
 
     /// ASSUME: `p |- p`. NotBool where the term is no formula; then refused where the theory does not know it, as
@@ -201,7 +201,7 @@ impl Theory {
         let left = application(alloc, left_function, left_argument)?;
         let right = combination(alloc, right_function, right_argument)?;
         let hypotheses = with_hypotheses(alloc, first.hyps(), second.hyps())?;
-        equation_theorem(alloc, entries, hypotheses, &left, &right)
+        equation_theorem(alloc, self, hypotheses, &left, &right)
     }
 
     /// ABS: from `s = t`, `(\x. s) = (\x. t)`. NotVariable where the binder is no variable; NotEquation where the
@@ -228,7 +228,7 @@ impl Theory {
         let left = abstraction(alloc, binder, left_body)?;
         let right = abstraction(alloc, binder, right_body)?;
         let hypotheses = copies(alloc, theorem.hyps())?;
-        equation_theorem(alloc, entries, hypotheses, &left, &right)
+        equation_theorem(alloc, self, hypotheses, &left, &right)
     }
 
     /// BETA: `|- (\x. t) x = t`. NotTrivialBeta where the term is no abstraction that is applied to its own variable; then
@@ -256,7 +256,7 @@ impl Theory {
         let Some(body) = dest_trivial_redex(term) else {
             return Err(Fault::NotTrivialBeta);
         };
-        equation_theorem(alloc, self.entries(), Vec::new(alloc), term, body)
+        equation_theorem(alloc, self, Vec::new(alloc), term, body)
     }
 
     /// DEDUCT_ANTISYM_RULE: from `p` and `q`, `p = q`, each without the other's conclusion among its hypotheses. TooLarge
@@ -272,7 +272,7 @@ impl Theory {
         let from_first = without_hypothesis(alloc, second.concl(), first.hyps())?;
         let from_second = without_hypothesis(alloc, first.concl(), second.hyps())?;
         let hypotheses = with_hypotheses(alloc, &from_first, &from_second)?;
-        equation_theorem(alloc, entries, hypotheses, first.concl(), second.concl())
+        equation_theorem(alloc, self, hypotheses, first.concl(), second.concl())
     }
 
     /// DEDUCT_ANTISYM_RULE, where the second theorem has no hypothesis but the first conclusion, which is not compared for
@@ -291,6 +291,6 @@ impl Theory {
     {
         let entries = self.entries();
         let hypotheses = without_hypothesis(alloc, second.concl(), first.hyps())?;
-        equation_theorem(alloc, entries, hypotheses, first.concl(), second.concl())
+        equation_theorem(alloc, self, hypotheses, first.concl(), second.concl())
     }
 }

@@ -4,13 +4,16 @@ ghost use Rattle.std.specs.Str.{bytes_eq};
 ghost use Rattle.hol_model.specs.Kernel.Rules as rules;
 ghost use Rattle.std.specs.Option.{option_map};
 ghost use Rattle.indexmap.specs.IndexMap.{get_by_text};
+ghost use Rattle.hol_model.specs.Terms.HolType.{bool_type};
+ghost use Rattle.hol_model.specs.Terms.NamedTerm.{equality};
 ghost use Rattle.hol_model.specs.Logic.Theory.{generic_type};
 ghost use Rattle.hol_model.specs.Logic.KnownTerm as spec;
 ghost use Rattle.hol_model.specs.declared.fault.Fault.TheVariants.{Memory};
 
 use crate::entries::Entries;
-use crate::generic::{choice, equality};
+use crate::generic::{choice, equality, formula_equality};
 use hol_model::{DEFINITIONS_LIMIT, Fault};
+use hol_terms::Term;
 use hol_types::Ty;
 use indexmap::{IndexMap, IndexSet};
 use std::alloc::Global;
@@ -25,6 +28,8 @@ pub struct Theory {
     // The generic type of each constant.
     constants: IndexMap<String, Ty>,
     declared_types: IndexSet<String>,
+    // `=` of formulas, which equations of formulas share.
+    equality: Term,
 }
 
 impl Model for Theory {
@@ -57,6 +62,7 @@ impl Theory {
             count: 0,
             constants,
             declared_types: IndexSet::new(alloc),
+            equality: formula_equality(alloc)?,
         })
     }
 
@@ -66,6 +72,13 @@ impl Theory {
         ensures legal { IsLegal self.now }
     {
         &self.entries
+    }
+
+    /// The constant `=` of formulas.
+    pub(crate) fn formula_equality(&self) -> &Term
+        ensures { result.now ≡ equality (Some bool_type) }
+    {
+        &self.equality
     }
 
     /// The generic type of a constant, or `None` where there is no constant of the name. Each constant in a theorem has an

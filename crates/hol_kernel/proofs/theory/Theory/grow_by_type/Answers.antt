@@ -24,4 +24,5 @@ invariant_of-self-2 c = record {
       ∙ sym (c.requires.types other);
   counted = let one = c.requires.one_more in let same = c.self.view_is in let counted = c.self.invariant.counted in omega (arith, ap length same);
   within_limit = let one = c.requires.one_more in let room = c.requires.room in omega arith;
+  equality = c.self.invariant.equality;
 }
