@@ -116,7 +116,8 @@ fn print_definition(
     print(out, b"->")?;
     print_type(table, ty, true, out)?;
     print(out, b"->bool] ")?;
-    print_typed(table, b"[", name, ty, b"]) ", out)?;
+    print_typed(table, b'[', name, ty, b']', out)?;
+    print(out, b") ")?;
     print_term(table, body, out)?;
     print(out, b")")
 }
@@ -137,9 +138,10 @@ fn print_entry(table: &Terms, entry: TheoryEntry, out: &mut Vec<u8>) -> Result<(
             print(out, b"TYPE ")?;
             print(out, table.name_bytes(name))
         }
-        TheoryEntry::DeclaredConstant(name, ty) => print_typed(
-            table, b"CONST [", name, ty, b"]", out,
-        ),
+        TheoryEntry::DeclaredConstant(name, ty) => {
+            print(out, b"CONST ")?;
+            print_typed(table, b'[', name, ty, b']', out)
+        }
     }
 }
 

@@ -1,5 +1,5 @@
 // The texts of types and terms without bound names.
-ghost use Rattle.std.specs.Prelude.{◌<◌, ◌∷◌, ◌++◌, false, length, OnOk};
+ghost use Rattle.std.specs.Prelude.{◌<◌, [], ◌∷◌, ◌++◌, false, length, OnOk};
 ghost use Rattle.std.specs.List.{All};
 ghost use Rattle.hol_model.specs.Logs.LogClaims.{nameless_bytes, further_nameless, listed_nameless};
 ghost use Rattle.hol_logtext.specs.Writing.{Appends};
@@ -18,14 +18,22 @@ pub(crate) fn print(out: &mut Vec<u8>, bytes: &[u8]) -> Result<(), AllocError>
     out.extend_from_slice(bytes)
 }
 
-// Puts bytes at the end where they are wanted.
-fn print_if(out: &mut Vec<u8>, wanted: bool, bytes: &[u8]) -> Result<(), AllocError>
-    ensures { OnOk result (Appends out.old.items out.new.items (bytes_if wanted bytes.now)) }
+// Puts a byte at the end.
+fn print_byte(out: &mut Vec<u8>, byte: u8) -> Result<(), AllocError>
+    ensures { OnOk result (Appends out.old.items out.new.items (λ rest. byte ∷ rest)) }
+{
+    out.push(byte)?;
+    Ok(())
+}
+
+// Puts a byte at the end where it is wanted.
+fn print_byte_if(out: &mut Vec<u8>, wanted: bool, byte: u8) -> Result<(), AllocError>
+    ensures { OnOk result (Appends out.old.items out.new.items (bytes_if wanted (byte ∷ []))) }
 {
     if wanted {
-        print(out, bytes)
+        print_byte(out, byte)
     } else {
-        print(out, b"")
+        Ok(())
     }
 }
 
@@ -43,35 +51,35 @@ pub(crate) fn print_type(
         TypeShape::Variable(name) => print(out, table.name_bytes(name)),
         TypeShape::Boolean => print(out, b"bool"),
         TypeShape::Function(domain, codomain) => {
-            print_if(out, on_left, b"(")?;
+            print_byte_if(out, on_left, b'(')?;
             print_type(table, domain, true, out)?;
             print(out, b"->")?;
             print_type(table, codomain, false, out)?;
-            print_if(out, on_left, b")")
+            print_byte_if(out, on_left, b')')
         }
         TypeShape::Declared(name) => print(out, table.name_bytes(name)),
     }
 }
 
-/// Prints a name with its type, between two brackets.
+/// Prints a name with its type, between two bytes.
 pub(crate) fn print_typed(
     table: &Terms,
-    before: &[u8],
+    before: u8,
     name: usize,
     ty: usize,
-    after: &[u8],
+    after: u8,
     out: &mut Vec<u8>,
 ) -> Result<(), AllocError>
     requires name { name < length table.now.names }
     requires ty { ty < length table.now.types }
     ensures { OnOk result (Appends out.old.items out.new.items
-        (λ rest. before.now ++ (name_at table.now.names name ++ 58 ∷ type_text false (type_at table.now.types ty) (after.now ++ rest)))) }
+        (λ rest. before ∷ (name_at table.now.names name ++ 58 ∷ type_text false (type_at table.now.types ty) (after ∷ rest)))) }
 {
-    print(out, before)?;
+    print_byte(out, before)?;
     print(out, table.name_bytes(name))?;
-    print(out, b":")?;
+    print_byte(out, b':')?;
     print_type(table, ty, false, out)?;
-    print(out, after)
+    print_byte(out, after)
 }
 
 /// Prints a term: each function, argument and body in parentheses.
@@ -80,26 +88,26 @@ pub(crate) fn print_term(table: &Terms, number: usize, out: &mut Vec<u8>) -> Res
     ensures { OnOk result (Appends out.old.items out.new.items (nameless_bytes (term_at table.now.terms number))) }
 {
     match table.shape(number) {
-        TermShape::Free(name, ty) => print_typed(table, b"(", name, ty, b")", out),
-        TermShape::Constant(name, ty) => print_typed(table, b"[", name, ty, b"]", out),
+        TermShape::Free(name, ty) => print_typed(table, b'(', name, ty, b')', out),
+        TermShape::Constant(name, ty) => print_typed(table, b'[', name, ty, b']', out),
         TermShape::Bound(index) => {
             let mut digits = Buffer::new();
-            print(out, b"#")?;
+            print_byte(out, b'#')?;
             print(out, digits.format(index).as_bytes())
         }
         TermShape::Application(function, argument) => {
-            print(out, b"(")?;
+            print_byte(out, b'(')?;
             print_term(table, function, out)?;
-            print(out, b" ")?;
+            print_byte(out, b' ')?;
             print_term(table, argument, out)?;
-            print(out, b")")
+            print_byte(out, b')')
         }
         TermShape::Abstraction(ty, body) => {
             print(out, b"(\\")?;
             print_type(table, ty, false, out)?;
             print(out, b". ")?;
             print_term(table, body, out)?;
-            print(out, b")")
+            print_byte(out, b')')
         }
     }
 }
@@ -130,7 +138,7 @@ pub(crate) fn print_listed(
         [first, rest @ ..] => {
             print_term(table, *first, out)?;
             print_further(table, rest, out)?;
-            print(out, b" ")
+            print_byte(out, b' ')
         }
     }
 }
