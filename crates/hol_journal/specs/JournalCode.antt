@@ -7,8 +7,7 @@ use Rattle.hol_model.specs.Terms.HolType.{HolType}
 use Rattle.hol_model.specs.Terms.HolTypeCode.{type_code}
 use Rattle.hol_model.specs.Terms.NamedTerm.{NamedTerm}
 use Rattle.hol_model.specs.Terms.NamedTermCode.{term_code}
-use Rattle.hol_model.specs.Terms.Nameless.{Nameless}
-use Rattle.hol_model.specs.Terms.NamelessCode.{nameless_code, theory_code}
+use Rattle.hol_model.specs.Terms.NamelessCode.{theory_code}
 use Rattle.hol_model.specs.Goals.Goals.{Sequent}
 use Rattle.hol_model.specs.Kernel.Theorem.{Theorem}
 use Rattle.hol_model.specs.Kernel.TheoremCode.{theorem_code}
@@ -16,6 +15,7 @@ use Rattle.hol_model.specs.Logic.Theory.{Theory}
 use Rattle.hol_journal.specs.Steps.{Step, by_refl, by_trans, by_mk_comb, by_abs, by_beta, by_assume, by_eq_mp, by_deduct, by_inst, by_inst_type}
 use Rattle.hol_journal.specs.Steps.{by_eta, by_select, by_definition, JournalEntry, derived, declared_type, declared_constant}
 use Rattle.hol_journal.specs.Journal.{Journal, Recorded}
+use Rattle.hol_journal.specs.SequentCode.{sequent_code}
 
 abbrev two_code : Coded (ℕ × ℕ)
 two_code = coded× coded_ℕ coded_ℕ
@@ -34,11 +34,6 @@ definition_code = coded× (coded_list coded_ℕ) term_code
 
 abbrev constant_code : Coded (List ℕ × HolType)
 constant_code = coded× (coded_list coded_ℕ) type_code
-
-abbrev sequent_code : Coded Sequent
-sequent_code =
-    code_by (List Nameless × Nameless) (coded× (coded_list nameless_code) nameless_code)
-    (λ s. (s.hypotheses, s.conclusion)) (λ p. record { hypotheses = p.0; conclusion = p.1 }) (λ _. refl)
 
 abbrev pub code_step : Step → Gv
 code_step (by_refl term) = gcons (gnum 0) (term_code.code term)

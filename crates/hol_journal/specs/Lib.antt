@@ -4,6 +4,7 @@ pub mod Limits
 pub mod Journal
 pub mod Views
 pub mod Recorder
+pub mod SequentCode
 pub mod JournalCode
 pub mod Growth
 pub mod Kept

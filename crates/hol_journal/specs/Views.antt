@@ -5,7 +5,7 @@ use Rattle.hol_model.specs.Terms.NamedTerm.{constant, equation}
 use Rattle.hol_model.specs.Terms.Nameless.{image}
 use Rattle.hol_model.specs.Logic.Legality.{own_type}
 use Rattle.hol_journal.specs.Steps as steps
-use Rattle.hol_journal.specs.Steps.{JournalEntry, derived, declared_type, declared_constant, sequent_of_theorem}
+use Rattle.hol_journal.specs.Steps.{JournalEntry, derived, declared_type, declared_constant}
 use Rattle.hol_journal.specs.declared.entry.Rule.{Rule}
 use Rattle.hol_journal.specs.declared.entry.Rule.TheVariants.{Refl, Trans, MkComb, Abs, Beta, Assume, EqMp, DeductAntisym, Inst, InstType, Eta, Select}
 use Rattle.hol_journal.specs.declared.entry.Entry.{Entry}
@@ -27,7 +27,7 @@ step_of Select = steps.by_select
 
 -- the sequent of a definition is that of its equation
 abbrev pub entry_of : Entry → JournalEntry
-entry_of (Derived rule theorem) = derived (step_of rule) (sequent_of_theorem theorem)
+entry_of (Derived rule statement) = derived (step_of rule) statement.sequent
 entry_of (Defined name term) = derived (steps.by_definition (string_bytes name) term) (record { hypotheses = []; conclusion = image (equation (constant (string_bytes name) (own_type term)) term) })
 entry_of (DeclaredType name) = declared_type (string_bytes name)
 entry_of (DeclaredConstant name ty) = declared_constant (string_bytes name) ty

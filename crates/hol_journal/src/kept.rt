@@ -6,7 +6,7 @@ ghost use Rattle.hol_journal.specs.Journal.{added_by};
 ghost use Rattle.hol_journal.specs.Views.{step_of, entry_of};
 ghost use Rattle.hol_journal.specs.Stored.{AreKept, IsStored};
 
-use crate::entry::{Entry, Rule};
+use crate::entry::{Entry, Rule, Statement};
 use crate::trail::Trail;
 use hol_kernel::Thm;
 use hol_model::Fault;
@@ -182,12 +182,7 @@ impl KeptEntries {
     }
 
     /// One theorem more, with its rule.
-    pub(crate) fn push_step(
-        &mut self,
-        alloc: Global,
-        rule: Rule,
-        theorem: &Thm,
-    ) -> Result<(), Fault>
+    pub(crate) fn push_step(&mut self, rule: Rule, theorem: &Thm) -> Result<(), Fault>
         ensures ok { OnOk result (self.new.entries ≡ self.old.entries ++ derived (step_of rule) (sequent_of_theorem theorem.now) ∷ []) }
         ensures kept { OnErr result (self.new.entries ≡ self.old.entries) }
         ensures err { IfErr result (λ fault. fault ≡ Memory) }
@@ -198,14 +193,11 @@ impl KeptEntries {
         let number = self.count;
         let trail = self.trail.with_step(&rule, theorem);
         if let Some(kept) = &mut self.kept {
-            let copy = theorem.copy(alloc)?;
             if kept.reserve(1).is_err() {
                 return Err(Fault::Memory);
             }
-            kept.push_reserved(Numbered {
-                number,
-                entry: Entry::Derived(rule, copy),
-            });
+            let entry = Entry::Derived(rule, Statement::of(theorem));
+            kept.push_reserved(Numbered { number, entry });
         }
         self.trail = trail;
         self.count += 1;

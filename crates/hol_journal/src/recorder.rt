@@ -161,7 +161,7 @@ impl Recorder {
     }
 
     // The theorem with an entry of its own.
-    fn record(&mut self, alloc: Global, rule: Rule, theorem: Thm) -> Result<Rec, Fault>
+    fn record(&mut self, rule: Rule, theorem: Thm) -> Result<Rec, Fault>
         requires follows { IsJournal self.old → Follows self.old.entries (step_of rule) (sequent_of_theorem theorem) }
         requires stands_on { theorem.theory ≡ self.old.theory }
         ensures ok { IfOk result (λ made. made.theorem ≡ theorem) }
@@ -170,7 +170,7 @@ impl Recorder {
         ensures kept { OnErr result (self.new ≡ self.old) }
     {
         let entry = self.entries.len();
-        self.entries.push_step(alloc, rule, &theorem)?;
+        self.entries.push_step(rule, &theorem)?;
         Ok(Rec { theorem, entry })
     }
 
@@ -187,7 +187,7 @@ impl Recorder {
         term.well_formed();
         let _type = term.ty();
         let rule = Rule::Refl(term.copy(alloc)?);
-        self.record(alloc, rule, theorem)
+        self.record(rule, theorem)
     }
 
     // ASSUME's theorem of the term, with an entry.
@@ -203,7 +203,7 @@ impl Recorder {
         term.well_formed();
         let _type = term.ty();
         let rule = Rule::Assume(term.copy(alloc)?);
-        self.record(alloc, rule, theorem)
+        self.record(rule, theorem)
     }
 
     // BETA's theorem of the term, with an entry.
@@ -219,17 +219,11 @@ impl Recorder {
         term.well_formed();
         let _type = term.ty();
         let rule = Rule::Beta(term.copy(alloc)?);
-        self.record(alloc, rule, theorem)
+        self.record(rule, theorem)
     }
 
     // TRANS's theorem of the two, with an entry.
-    fn record_trans(
-        &mut self,
-        alloc: Global,
-        first: &Rec,
-        second: &Rec,
-        theorem: Thm,
-    ) -> Result<Rec, Fault>
+    fn record_trans(&mut self, first: &Rec, second: &Rec, theorem: Thm) -> Result<Rec, Fault>
         requires first { IsMade self.old first.now }
         requires second { IsMade self.old second.now }
         requires outcome { outcome.trans_outcome self.old.theory first.now.theorem second.now.theorem ≡ Ok theorem }
@@ -242,17 +236,11 @@ impl Recorder {
         within_limits(&theorem);
         let _first = first.theorem.concl();
         let _second = second.theorem.concl();
-        self.record(alloc, Rule::Trans(first.entry, second.entry), theorem)
+        self.record(Rule::Trans(first.entry, second.entry), theorem)
     }
 
     // EQ_MP's theorem of the two, with an entry.
-    fn record_eq_mp(
-        &mut self,
-        alloc: Global,
-        first: &Rec,
-        second: &Rec,
-        theorem: Thm,
-    ) -> Result<Rec, Fault>
+    fn record_eq_mp(&mut self, first: &Rec, second: &Rec, theorem: Thm) -> Result<Rec, Fault>
         requires first { IsMade self.old first.now }
         requires second { IsMade self.old second.now }
         requires outcome { outcome.eq_mp_outcome self.old.theory first.now.theorem second.now.theorem ≡ Ok theorem }
@@ -265,17 +253,11 @@ impl Recorder {
         within_limits(&theorem);
         let _first = first.theorem.concl();
         let _second = second.theorem.concl();
-        self.record(alloc, Rule::EqMp(first.entry, second.entry), theorem)
+        self.record(Rule::EqMp(first.entry, second.entry), theorem)
     }
 
     // DEDUCT_ANTISYM_RULE's theorem of the two, with an entry.
-    fn record_deduct(
-        &mut self,
-        alloc: Global,
-        first: &Rec,
-        second: &Rec,
-        theorem: Thm,
-    ) -> Result<Rec, Fault>
+    fn record_deduct(&mut self, first: &Rec, second: &Rec, theorem: Thm) -> Result<Rec, Fault>
         requires first { IsMade self.old first.now }
         requires second { IsMade self.old second.now }
         requires outcome { outcome.deduct_antisym_outcome self.old.theory first.now.theorem second.now.theorem ≡ Ok theorem }
@@ -289,7 +271,7 @@ impl Recorder {
         let _first = first.theorem.concl();
         let _second = second.theorem.concl();
         let rule = Rule::DeductAntisym(first.entry, second.entry);
-        self.record(alloc, rule, theorem)
+        self.record(rule, theorem)
     }
 
     // An instance of the theorem by INST, with an entry.
@@ -313,7 +295,7 @@ impl Recorder {
         pairs_fit(theta);
         let _theorem = theorem.theorem.concl();
         let rule = Rule::Inst(theorem.entry, copied_terms(alloc, theta)?);
-        self.record(alloc, rule, answer)
+        self.record(rule, answer)
     }
 
     /// REFL: `|- t = t`. Walks the term; for one that a proof shows to be known, `refl_known`.
@@ -388,7 +370,7 @@ impl Recorder {
         ensures kept { OnErr result (self.new ≡ self.old) }
     {
         let theorem = self.theory.trans(alloc, &first.theorem, &second.theorem)?;
-        self.record_trans(alloc, first, second, theorem)
+        self.record_trans(first, second, theorem)
     }
 
     /// TRANS of equations that fit, whose middle terms are not compared for it.
@@ -403,7 +385,7 @@ impl Recorder {
         let theorem = self
             .theory
             .trans_known(alloc, &first.theorem, &second.theorem)?;
-        self.record_trans(alloc, first, second, theorem)
+        self.record_trans(first, second, theorem)
     }
 
     /// EQ_MP: from `p = q` and `p`, `q`. Compares `p` with the left side; where a proof shows that they fit, `eq_mp_known`.
@@ -415,7 +397,7 @@ impl Recorder {
         ensures kept { OnErr result (self.new ≡ self.old) }
     {
         let theorem = self.theory.eq_mp(alloc, &first.theorem, &second.theorem)?;
-        self.record_eq_mp(alloc, first, second, theorem)
+        self.record_eq_mp(first, second, theorem)
     }
 
     /// EQ_MP of an equation and its left side, which are not compared for it.
@@ -430,7 +412,7 @@ impl Recorder {
         let theorem = self
             .theory
             .eq_mp_known(alloc, &first.theorem, &second.theorem)?;
-        self.record_eq_mp(alloc, first, second, theorem)
+        self.record_eq_mp(first, second, theorem)
     }
 
     /// MK_COMB: from `f = g` and `x = y`, `f x = g y`.
@@ -445,7 +427,7 @@ impl Recorder {
         within_limits(&theorem);
         let _first = first.theorem.concl();
         let _second = second.theorem.concl();
-        self.record(alloc, Rule::MkComb(first.entry, second.entry), theorem)
+        self.record(Rule::MkComb(first.entry, second.entry), theorem)
     }
 
     /// DEDUCT_ANTISYM_RULE: from `p` and `q`, `p = q`, each without the other's conclusion among its hypotheses. Where a
@@ -460,7 +442,7 @@ impl Recorder {
         let theorem = self
             .theory
             .deduct_antisym(alloc, &first.theorem, &second.theorem)?;
-        self.record_deduct(alloc, first, second, theorem)
+        self.record_deduct(first, second, theorem)
     }
 
     /// DEDUCT_ANTISYM_RULE, where the second theorem has no hypothesis but the first conclusion, which is not compared for
@@ -481,7 +463,7 @@ impl Recorder {
         let theorem = self
             .theory
             .deduct_antisym_known(alloc, &first.theorem, &second.theorem)?;
-        self.record_deduct(alloc, first, second, theorem)
+        self.record_deduct(first, second, theorem)
     }
 
     /// ABS: from `s = t`, `(\x. s) = (\x. t)`, where `x` is free in no hypothesis.
@@ -496,7 +478,7 @@ impl Recorder {
         binder.well_formed();
         let _theorem = theorem.theorem.concl();
         let rule = Rule::Abs(binder.copy(alloc)?, theorem.entry);
-        self.record(alloc, rule, answer)
+        self.record(rule, answer)
     }
 
     /// INST: free variables replaced by terms of their types, all at once, by a list of pairs (new, old). Walks the new
@@ -551,7 +533,7 @@ impl Recorder {
         type_pairs_fit(theta);
         let _theorem = theorem.theorem.concl();
         let rule = Rule::InstType(theorem.entry, copied_types(alloc, theta)?);
-        self.record(alloc, rule, answer)
+        self.record(rule, answer)
     }
 
     /// ETA: `|- (\x:A. t x) = t`.
@@ -563,7 +545,7 @@ impl Recorder {
     {
         let theorem = self.theory.eta(alloc)?;
         within_limits(&theorem);
-        self.record(alloc, Rule::Eta, theorem)
+        self.record(Rule::Eta, theorem)
     }
 
     /// SELECT: `P x |- P (@ P)`.
@@ -575,7 +557,7 @@ impl Recorder {
     {
         let theorem = self.theory.select(alloc)?;
         within_limits(&theorem);
-        self.record(alloc, Rule::Select, theorem)
+        self.record(Rule::Select, theorem)
     }
 
     /// Defines a constant; the theorem is `|- c = t`, and stands on the theory with the definition.
