@@ -59,10 +59,7 @@ pub fn as_answer(made: Result<Rec, Fault>) -> Result<Converted, Fault>
     ensures answered { (theory : Theory) (t : NamedTerm) → answered theory t result ≡ theorem_in made }
     ensures made { (old new : library.Library) (t : NamedTerm) → Makes old new made → MakesAnswer old new t result }
 {
-    match made {
-        Ok(made) => Ok(Converted::Changed(made)),
-        Err(fault) => Err(fault),
-    }
+    Ok(Converted::Changed(made?))
 }
 
 /// The theorem of an answer on a known term.
@@ -78,10 +75,9 @@ pub fn theorem(
     ensures joins { Joins (answered library.old.recorder.theory t.now answer) (theorem_in result) }
     ensures makes { Makes library.old library.new result }
 {
-    match answer {
-        Ok(Converted::Same) => refl_known(library, alloc, t),
-        Ok(Converted::Changed(made)) => Ok(made),
-        Err(fault) => Err(fault),
+    match answer? {
+        Converted::Same => refl_known(library, alloc, t),
+        Converted::Changed(made) => Ok(made),
     }
 }
 
@@ -198,10 +194,9 @@ pub fn of_body(
         → Joins (conversions.of_body library.old.recorder.theory name ty (answered library.old.recorder.theory body part)) (answered library.old.recorder.theory t.now result) }
     ensures makes { MakesAnswer library.old library.new t.now result }
 {
-    match part {
-        Ok(Converted::Same) => unchanged(t),
-        Ok(Converted::Changed(part)) => as_answer(abs(library, alloc, binder, &part)),
-        Err(fault) => Err(fault),
+    match part? {
+        Converted::Same => unchanged(t),
+        Converted::Changed(part) => as_answer(abs(library, alloc, binder, &part)),
     }
 }
 

@@ -32,10 +32,8 @@ fn with_laws(recorder: &mut Recorder, alloc: Global) -> Result<Vec<Rec>, Fault>
     ensures made { IfOk result (λ all. AreMade recorder.new all.items) }
     ensures grown { IsGrown recorder.old recorder.new }
 {
-    match first(recorder, alloc) {
-        Ok(earlier) => make_table(recorder, alloc, earlier, &LAWS),
-        Err(fault) => Err(fault),
-    }
+    let earlier = first(recorder, alloc)?;
+    make_table(recorder, alloc, earlier, &LAWS)
 }
 
 // The theorems, and the laws of falsity.
@@ -45,10 +43,8 @@ fn with_falsity(recorder: &mut Recorder, alloc: Global) -> Result<Vec<Rec>, Faul
     ensures made { IfOk result (λ all. AreMade recorder.new all.items) }
     ensures grown { IsGrown recorder.old recorder.new }
 {
-    match with_laws(recorder, alloc) {
-        Ok(earlier) => make_table(recorder, alloc, earlier, &FALSITY_LAWS),
-        Err(fault) => Err(fault),
-    }
+    let earlier = with_laws(recorder, alloc)?;
+    make_table(recorder, alloc, earlier, &FALSITY_LAWS)
 }
 
 // The theorems, and the laws of the formula that is chosen for `p \/ ~p`.
@@ -58,10 +54,8 @@ fn with_decider(recorder: &mut Recorder, alloc: Global) -> Result<Vec<Rec>, Faul
     ensures made { IfOk result (λ all. AreMade recorder.new all.items) }
     ensures grown { IsGrown recorder.old recorder.new }
 {
-    match with_falsity(recorder, alloc) {
-        Ok(earlier) => make_table(recorder, alloc, earlier, &DECIDER_LAWS),
-        Err(fault) => Err(fault),
-    }
+    let earlier = with_falsity(recorder, alloc)?;
+    make_table(recorder, alloc, earlier, &DECIDER_LAWS)
 }
 
 // The theorems, and DISJ1.
@@ -71,10 +65,8 @@ fn with_disjunction(recorder: &mut Recorder, alloc: Global) -> Result<Vec<Rec>, 
     ensures made { IfOk result (λ all. AreMade recorder.new all.items) }
     ensures grown { IsGrown recorder.old recorder.new }
 {
-    match with_decider(recorder, alloc) {
-        Ok(earlier) => make_table(recorder, alloc, earlier, &DISJUNCTION),
-        Err(fault) => Err(fault),
-    }
+    let earlier = with_decider(recorder, alloc)?;
+    make_table(recorder, alloc, earlier, &DISJUNCTION)
 }
 
 // The theorems, and DISJ2 and DISJ_CASES.
@@ -84,10 +76,8 @@ fn with_cases(recorder: &mut Recorder, alloc: Global) -> Result<Vec<Rec>, Fault>
     ensures made { IfOk result (λ all. AreMade recorder.new all.items) }
     ensures grown { IsGrown recorder.old recorder.new }
 {
-    match with_disjunction(recorder, alloc) {
-        Ok(earlier) => make_table(recorder, alloc, earlier, &CASES),
-        Err(fault) => Err(fault),
-    }
+    let earlier = with_disjunction(recorder, alloc)?;
+    make_table(recorder, alloc, earlier, &CASES)
 }
 
 // The theorems, and EXISTS.
@@ -97,10 +87,8 @@ fn with_existence(recorder: &mut Recorder, alloc: Global) -> Result<Vec<Rec>, Fa
     ensures made { IfOk result (λ all. AreMade recorder.new all.items) }
     ensures grown { IsGrown recorder.old recorder.new }
 {
-    match with_cases(recorder, alloc) {
-        Ok(earlier) => make_table(recorder, alloc, earlier, &EXISTENCE),
-        Err(fault) => Err(fault),
-    }
+    let earlier = with_cases(recorder, alloc)?;
+    make_table(recorder, alloc, earlier, &EXISTENCE)
 }
 
 // The theorems, and CHOOSE, ETA_AX and SELECT_AX.
@@ -111,10 +99,8 @@ fn with_axioms(recorder: &mut Recorder, alloc: Global) -> Result<Vec<Rec>, Fault
     ensures made { IfOk result (λ all. AreMade recorder.new all.items) }
     ensures grown { IsGrown recorder.old recorder.new }
 {
-    match with_existence(recorder, alloc) {
-        Ok(earlier) => make_table(recorder, alloc, earlier, &AXIOMS),
-        Err(fault) => Err(fault),
-    }
+    let earlier = with_existence(recorder, alloc)?;
+    make_table(recorder, alloc, earlier, &AXIOMS)
 }
 
 // The theorems, and EXCLUDED_MIDDLE.
@@ -125,10 +111,8 @@ fn with_middle(recorder: &mut Recorder, alloc: Global) -> Result<Vec<Rec>, Fault
     ensures made { IfOk result (λ all. AreMade recorder.new all.items) }
     ensures grown { IsGrown recorder.old recorder.new }
 {
-    match with_axioms(recorder, alloc) {
-        Ok(earlier) => make_table(recorder, alloc, earlier, &MIDDLE),
-        Err(fault) => Err(fault),
-    }
+    let earlier = with_axioms(recorder, alloc)?;
+    make_table(recorder, alloc, earlier, &MIDDLE)
 }
 
 /// All theorems, the laws among them.
@@ -139,8 +123,6 @@ pub(crate) fn with_conjunction(recorder: &mut Recorder, alloc: Global) -> Result
     ensures made { IfOk result (λ all. AreMade recorder.new all.items) }
     ensures grown { IsGrown recorder.old recorder.new }
 {
-    match with_middle(recorder, alloc) {
-        Ok(earlier) => make_table(recorder, alloc, earlier, &CONJUNCTION),
-        Err(fault) => Err(fault),
-    }
+    let earlier = with_middle(recorder, alloc)?;
+    make_table(recorder, alloc, earlier, &CONJUNCTION)
 }

@@ -52,12 +52,10 @@ pub fn prelude(recorder: &mut Recorder, alloc: Global) -> Result<Bool, Fault>
     ensures err { IfErr result (λ fault. fault ≡ Memory) }
     ensures grown { IsGrown recorder.old recorder.new }
 {
-    match with_conjunction(recorder, alloc) {
-        Ok(all) => Ok(Bool {
-            theorems: without_laws(all),
-        }),
-        Err(fault) => Err(fault),
-    }
+    let all = with_conjunction(recorder, alloc)?;
+    Ok(Bool {
+        theorems: without_laws(all),
+    })
 }
 
 /// The theorem of this number among those of the prelude.

@@ -56,10 +56,8 @@ fn with_truth(recorder: &mut Recorder, alloc: Global, logic: &Bool) -> Result<Ve
 {
     let stored = logic.theorems();
     let before = before_laws(stored);
-    match with_copies(alloc, Vec::new(alloc), before) {
-        Ok(earlier) => make_table(recorder, alloc, earlier, &TRUTH_LAWS),
-        Err(fault) => Err(fault),
-    }
+    let earlier = with_copies(alloc, Vec::new(alloc), before)?;
+    make_table(recorder, alloc, earlier, &TRUTH_LAWS)
 }
 
 // What derivations of the laws cite of the prelude.
@@ -72,10 +70,8 @@ fn cited(recorder: &mut Recorder, alloc: Global, logic: &Bool) -> Result<Vec<Rec
 {
     let stored = logic.theorems();
     let behind = behind_laws(stored);
-    match with_truth(recorder, alloc, logic) {
-        Ok(earlier) => with_copies(alloc, earlier, behind),
-        Err(fault) => Err(fault),
-    }
+    let earlier = with_truth(recorder, alloc, logic)?;
+    with_copies(alloc, earlier, behind)
 }
 
 // The same, and what is discharged.
@@ -86,10 +82,8 @@ fn with_discharged(recorder: &mut Recorder, alloc: Global, logic: &Bool) -> Resu
     ensures made { IfOk result (λ all. AreMade recorder.new all.items) }
     ensures grown { IsGrown recorder.old recorder.new }
 {
-    match cited(recorder, alloc, logic) {
-        Ok(earlier) => make_table(recorder, alloc, earlier, &DISCHARGED),
-        Err(fault) => Err(fault),
-    }
+    let earlier = cited(recorder, alloc, logic)?;
+    make_table(recorder, alloc, earlier, &DISCHARGED)
 }
 
 // The same, and the laws of `/\` and `==>`.
@@ -100,10 +94,8 @@ fn with_sides(recorder: &mut Recorder, alloc: Global, logic: &Bool) -> Result<Ve
     ensures made { IfOk result (λ all. AreMade recorder.new all.items) }
     ensures grown { IsGrown recorder.old recorder.new }
 {
-    match with_discharged(recorder, alloc, logic) {
-        Ok(earlier) => make_table(recorder, alloc, earlier, &SIDES),
-        Err(fault) => Err(fault),
-    }
+    let earlier = with_discharged(recorder, alloc, logic)?;
+    make_table(recorder, alloc, earlier, &SIDES)
 }
 
 // The same, and the laws of `~` and `<=>`.
@@ -114,10 +106,8 @@ fn with_negations(recorder: &mut Recorder, alloc: Global, logic: &Bool) -> Resul
     ensures made { IfOk result (λ all. AreMade recorder.new all.items) }
     ensures grown { IsGrown recorder.old recorder.new }
 {
-    match with_sides(recorder, alloc, logic) {
-        Ok(earlier) => make_table(recorder, alloc, earlier, &NEGATIONS),
-        Err(fault) => Err(fault),
-    }
+    let earlier = with_sides(recorder, alloc, logic)?;
+    make_table(recorder, alloc, earlier, &NEGATIONS)
 }
 
 // The same, and the law of `\/`.
@@ -128,10 +118,8 @@ fn with_disjunction(recorder: &mut Recorder, alloc: Global, logic: &Bool) -> Res
     ensures made { IfOk result (λ all. AreMade recorder.new all.items) }
     ensures grown { IsGrown recorder.old recorder.new }
 {
-    match with_negations(recorder, alloc, logic) {
-        Ok(earlier) => make_table(recorder, alloc, earlier, &DISJUNCTION),
-        Err(fault) => Err(fault),
-    }
+    let earlier = with_negations(recorder, alloc, logic)?;
+    make_table(recorder, alloc, earlier, &DISJUNCTION)
 }
 
 /// All of them.
@@ -146,8 +134,6 @@ pub(crate) fn with_denial(
     ensures made { IfOk result (λ all. AreMade recorder.new all.items) }
     ensures grown { IsGrown recorder.old recorder.new }
 {
-    match with_disjunction(recorder, alloc, logic) {
-        Ok(earlier) => make_table(recorder, alloc, earlier, &DENIAL),
-        Err(fault) => Err(fault),
-    }
+    let earlier = with_disjunction(recorder, alloc, logic)?;
+    make_table(recorder, alloc, earlier, &DENIAL)
 }

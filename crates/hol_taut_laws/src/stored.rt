@@ -31,10 +31,8 @@ pub fn tautology_laws(recorder: &mut Recorder, alloc: Global, logic: &Bool) -> R
     ensures err { IfErr result (λ fault. fault ≡ Memory) }
     ensures grown { IsGrown recorder.old recorder.new }
 {
-    match with_denial(recorder, alloc, logic) {
-        Ok(theorems) => Ok(Laws { theorems }),
-        Err(fault) => Err(fault),
-    }
+    let theorems = with_denial(recorder, alloc, logic)?;
+    Ok(Laws { theorems })
 }
 
 /// The theorem of a law.

@@ -7,15 +7,15 @@ use Rattle.hol_prelude_derivations.specs.Derivations.{theorems}
 use Rattle.hol_prelude.proofs.PreludeLemmas.{table-makes}
 use Rattle.hol_prelude.proofs.stages.with_conjunction.Goals as goal
 
-pub returns-in-Ok-clause-outcome : goal.returns-in-Ok-clause-outcome
-returns-in-Ok-clause-outcome c =
+pub returns-clause-outcome : goal.returns-clause-outcome
+returns-clause-outcome c =
     table-makes c.make_table.result c.with_middle.new.recorder.theory c.make_table.new.recorder.theory logical_definitions
-    (theorems c.in-Ok.earlier.items)
+    (theorems c.in_ok-earlier.earlier.items)
     (first_theorems ++ laws ++ falsity_laws ++ decider_laws ++ disjunction_theorems ++ case_theorems ++ existence_theorems ++ axiom_theorems
     ++ middle_theorems)
     (first_theorems ++ laws ++ falsity_laws ++ decider_laws ++ disjunction_theorems ++ case_theorems ++ existence_theorems ++ axiom_theorems
     ++ middle_theorems ++ conjunction_theorems)
-    c.make_table.ensures.outcome c.in-Ok.ensures.outcome.ok.defined c.in-Ok.ensures.outcome.ok.theorems_are refl
+    c.make_table.ensures.outcome c.in_ok-earlier.ensures.outcome.ok.defined c.in_ok-earlier.ensures.outcome.ok.theorems_are refl
 
-pub returns-in-Ok-clause-grown : goal.returns-in-Ok-clause-grown
-returns-in-Ok-clause-grown c = journals-grow.twice c.args.recorder.now c.with_middle.new.recorder c.make_table.new.recorder c.with_middle.ensures.grown c.make_table.ensures.grown
+pub returns-clause-grown : goal.returns-clause-grown
+returns-clause-grown c = journals-grow.twice c.args.recorder.now c.with_middle.new.recorder c.make_table.new.recorder c.with_middle.ensures.grown c.make_table.ensures.grown

@@ -12,12 +12,12 @@ before_laws-before-requires c = rw c.theorems-stored.ensures (first-within c.arg
 
 pub make_table-requires : goal.make_table-requires
 make_table-requires c =
-    before-made c.args.recorder.now c.args.logic.now.theorems.items c.before_laws-before.result.now c.in-Ok.earlier.items c.new.result.items c.requires.logic.made
-    (rw c.theorems-stored.ensures at c.before_laws-before.ensures) c.new.ensures.items c.in-Ok.ensures.ok
+    before-made c.args.recorder.now c.args.logic.now.theorems.items c.before_laws-before.result.now c.in_ok-earlier.earlier.items c.new.result.items c.requires.logic.made
+    (rw c.theorems-stored.ensures at c.before_laws-before.ensures) c.new.ensures.items c.in_ok-earlier.ensures.ok
 
-pub returns-in-Ok-clause-outcome : goal.returns-in-Ok-clause-outcome
-returns-in-Ok-clause-outcome c =
-    table-makes c.make_table.result c.args.recorder.now.theory c.make_table.new.recorder.theory logical_definitions (theorems c.in-Ok.earlier.items) first_theorems (first_theorems ++ take 4 laws)
+pub returns-clause-outcome : goal.returns-clause-outcome
+returns-clause-outcome c =
+    table-makes c.make_table.result c.args.recorder.now.theory c.make_table.new.recorder.theory logical_definitions (theorems c.in_ok-earlier.earlier.items) first_theorems (first_theorems ++ take 4 laws)
     c.make_table.ensures.outcome c.requires.theory
-    (before-are c.args.logic.now.theorems.items c.before_laws-before.result.now c.in-Ok.earlier.items c.new.result.items c.requires.logic.theorems_are
-    (rw c.theorems-stored.ensures at c.before_laws-before.ensures) c.new.ensures.items c.in-Ok.ensures.ok) refl
+    (before-are c.args.logic.now.theorems.items c.before_laws-before.result.now c.in_ok-earlier.earlier.items c.new.result.items c.requires.logic.theorems_are
+    (rw c.theorems-stored.ensures at c.before_laws-before.ensures) c.new.ensures.items c.in_ok-earlier.ensures.ok) refl
