@@ -1,4 +1,4 @@
-use Rattle.hol_check_rules.proofs.AxiomLemmas.{application-named, grown-twice}
+use Rattle.hol_check_rules.proofs.AxiomLemmas.{application-named}
 use Rattle.hol_check_rules.proofs.steps.axioms.choice_application.Goals as goal
 
 pub returns-clause-named : goal.returns-clause-named
@@ -8,7 +8,3 @@ returns-clause-named c = record {
       c.in_ok-choice.ensures.named.number c.select_predicate.ensures.grows c.in_ok-predicate.ensures.named.number c.application.ensures.number c.only_memory.ensures.number;
   refused = c.only_memory.ensures.refused;
 }
-
-pub returns-clause-grows : goal.returns-clause-grows
-returns-clause-grows c = grown-twice c.args.terms.now c.choice.new.terms c.select_predicate.new.terms c.application.new.self c.choice.ensures.grows
-    c.select_predicate.ensures.grows c.application.ensures.grows

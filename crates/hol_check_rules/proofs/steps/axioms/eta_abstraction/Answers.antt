@@ -1,4 +1,4 @@
-use Rattle.hol_check_rules.proofs.AxiomLemmas.{abstraction-named, grown-twice}
+use Rattle.hol_check_rules.proofs.AxiomLemmas.{abstraction-named}
 use Rattle.hol_check_rules.proofs.steps.axioms.eta_abstraction.Goals as goal
 
 pub returns-clause-named : goal.returns-clause-named
@@ -7,7 +7,3 @@ returns-clause-named c = record {
       c.in_ok-body.ensures.named.number c.type_variable.ensures.grows c.in_ok-ty.ensures.number c.abstraction.ensures.number c.only_memory.ensures.number;
   refused = c.only_memory.ensures.refused;
 }
-
-pub returns-clause-grows : goal.returns-clause-grows
-returns-clause-grows c = grown-twice c.args.terms.now c.eta_application.new.terms c.type_variable.new.self c.abstraction.new.self c.eta_application.ensures.grows
-    c.type_variable.ensures.grows c.abstraction.ensures.grows

@@ -1,4 +1,4 @@
-use Rattle.hol_check_rules.proofs.AxiomLemmas.{application-named, grown-twice}
+use Rattle.hol_check_rules.proofs.AxiomLemmas.{application-named}
 use Rattle.hol_check_rules.proofs.steps.axioms.eta_application.Goals as goal
 
 pub returns-clause-named : goal.returns-clause-named
@@ -7,7 +7,3 @@ returns-clause-named c = record {
       c.in_ok-function.ensures.named.number c.bound.ensures.grows c.in_ok-argument.ensures.number c.application.ensures.number c.only_memory.ensures.number;
   refused = c.only_memory.ensures.refused;
 }
-
-pub returns-clause-grows : goal.returns-clause-grows
-returns-clause-grows c = grown-twice c.args.terms.now c.eta_variable.new.terms c.bound.new.self c.application.new.self c.eta_variable.ensures.grows c.bound.ensures.grows
-    c.application.ensures.grows

@@ -1,4 +1,4 @@
-use Rattle.hol_check_rules.proofs.AxiomLemmas.{function-named, grown-twice}
+use Rattle.hol_check_rules.proofs.AxiomLemmas.{function-named}
 use Rattle.hol_check_rules.proofs.steps.axioms.predicate_type.Goals as goal
 
 pub returns-clause-named : goal.returns-clause-named
@@ -7,7 +7,3 @@ returns-clause-named c = record {
       c.in_ok-domain.ensures.number c.boolean.ensures.grows c.in_ok-codomain.ensures.number c.function_type.ensures.number c.only_memory.ensures.number;
   refused = c.only_memory.ensures.refused;
 }
-
-pub returns-clause-grows : goal.returns-clause-grows
-returns-clause-grows c = grown-twice c.args.terms.now c.type_variable.new.self c.boolean.new.self c.function_type.new.self c.type_variable.ensures.grows
-    c.boolean.ensures.grows c.function_type.ensures.grows

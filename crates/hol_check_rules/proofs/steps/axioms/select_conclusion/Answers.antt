@@ -5,7 +5,6 @@ use Rattle.hol_check_terms.specs.Terms.{term_at}
 use Rattle.hol_check_rules.proofs.AxiomLemmas.{term-kept, grown-twice}
 use Rattle.hol_check_rules.proofs.steps.axioms.select_conclusion.Goals as goal
 use Rattle.hol_check_terms.proofs.GrowthLemmas.{term-there, IsGrown-trans}
-use Rattle.hol_check_terms.proofs.TableLemmas.{is_within}
 
 pub returns-clause-formed : goal.returns-clause-formed
 returns-clause-formed c =
@@ -17,18 +16,6 @@ returns-clause-formed c =
     let made = subst (λ r. IfOk r (λ n. slice_get t3.terms n ≡ Some (app (term_at t2.terms c.in_ok-predicate.predicate) (term_at t2.terms c.in_ok-chosen.chosen)))) c.in_ok-number.ensures.number
     c.application.ensures.number in
     rw (term-there t3.terms c.in_ok-number.number _ made ∙ (λ i. app (predicate i) (chosen i))) at c.within_limits.ensures.formed
-
-pub returns-in_err-number-clause-grows : goal.returns-in_err-number-clause-grows
-returns-in_err-number-clause-grows c = grown-twice c.args.terms.now c.choice_application.new.terms c.select_predicate.new.terms c.application.new.self
-    c.choice_application.ensures.grows c.select_predicate.ensures.grows c.application.ensures.grows
-
-pub within_limits-requires : goal.within_limits-requires
-within_limits-requires c =
-    let t2 = c.select_predicate.new.terms in
-    let t3 = c.application.new.self in
-    let made = subst (λ r. IfOk r (λ n. slice_get t3.terms n ≡ Some (app (term_at t2.terms c.in_ok-predicate.predicate) (term_at t2.terms c.in_ok-chosen.chosen)))) c.in_ok-number.ensures.number
-    c.application.ensures.number in
-    is_within t3.terms c.in_ok-number.number _ made
 
 pub returns-clause-grows : goal.returns-clause-grows
 returns-clause-grows c =

@@ -1,6 +1,6 @@
 use Rattle.std.proofs.Common.{refl}
 use Rattle.hol_model.specs.Logic.Derivable.{select_predicate, select_variable, select_hypothesis}
-use Rattle.hol_check_rules.proofs.AxiomLemmas.{application-named, named-fits, grown-twice}
+use Rattle.hol_check_rules.proofs.AxiomLemmas.{application-named, named-fits}
 use Rattle.hol_check_rules.proofs.steps.axioms.select_hypothesis.Goals as goal
 
 pub returns-clause-named : goal.returns-clause-named
@@ -10,10 +10,6 @@ returns-clause-named c = record {
       c.only_memory.ensures.number;
   refused = c.only_memory.ensures.refused;
 }
-
-pub returns-clause-grows : goal.returns-clause-grows
-returns-clause-grows c = grown-twice c.args.terms.now c.select_predicate.new.terms c.select_variable.new.terms c.application.new.self c.select_predicate.ensures.grows
-    c.select_variable.ensures.grows c.application.ensures.grows
 
 pub returns-clause-fitting : goal.returns-clause-fitting
 returns-clause-fitting c =
