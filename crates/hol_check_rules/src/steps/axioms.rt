@@ -1,5 +1,5 @@
 // The axioms.
-ghost use Rattle.std.specs.Prelude.{◌≡◌, ◌∷◌, [], codes, Some, Ok, slice_get, IfOk, IfErr};
+ghost use Rattle.std.specs.Prelude.{◌≡◌, ◌∷◌, [], codes, Some, slice_get, IfOk, IfErr};
 ghost use Rattle.hol_model.specs.declared.fault.Fault.TheVariants.{Memory};
 ghost use Rattle.hol_model.specs.Terms.HolType as types;
 ghost use Rattle.hol_model.specs.Terms.Nameless.{const, bound, app, lam};
@@ -13,21 +13,10 @@ ghost use Rattle.hol_check_changes.specs.Forming.{IsFormed, IsFitting};
 use super::conclude::conclude;
 use crate::hypotheses::set_of;
 use crate::state::Theorem;
-use hol_check_changes::forming::{constant, equation_of, variable, within_limits};
+use hol_check_changes::forming::{application, constant, equation_of, variable, within_limits};
 use hol_check_terms::terms::Terms;
 use hol_model::{Cause, Fault};
 use std::alloc::Global;
-
-// The number of a term or type that is within the limits, so that only memory refuses it.
-fn only_memory(made: Result<usize, Fault>) -> Result<usize, Fault>
-    ensures number { IfOk result (λ number. made ≡ Ok number) }
-    ensures refused { IfErr result (λ fault. fault ≡ Memory) }
-{
-    match made {
-        Ok(number) => Ok(number),
-        Err(_fault) => Err(Fault::Memory),
-    }
-}
 
 /// A function equals the abstraction of its application.
 pub fn eta(alloc: Global, terms: &mut Terms) -> Result<Result<Theorem, Cause>, Fault>
@@ -55,7 +44,7 @@ fn eta_abstraction(alloc: Global, terms: &mut Terms) -> Result<usize, Fault>
 {
     let body = eta_application(alloc, terms)?;
     let ty = terms.type_variable(alloc, b"A")?;
-    only_memory(terms.abstraction(ty, body))
+    terms.abstraction(ty, body)
 }
 
 // t x, under the binder of x
@@ -65,7 +54,7 @@ fn eta_application(alloc: Global, terms: &mut Terms) -> Result<usize, Fault>
 {
     let function = eta_variable(alloc, terms)?;
     let argument = terms.bound(0)?;
-    only_memory(terms.application(function, argument))
+    terms.application(function, argument)
 }
 
 // t:A->B
@@ -84,7 +73,7 @@ fn eta_type(alloc: Global, terms: &mut Terms) -> Result<usize, Fault>
 {
     let domain = terms.type_variable(alloc, b"A")?;
     let codomain = terms.type_variable(alloc, b"B")?;
-    only_memory(terms.function_type(domain, codomain))
+    terms.function_type(domain, codomain)
 }
 
 /// A predicate that holds of something holds of its choice.
@@ -105,7 +94,7 @@ fn select_hypothesis(alloc: Global, terms: &mut Terms) -> Result<usize, Fault>
 {
     let predicate = select_predicate(alloc, terms)?;
     let argument = select_variable(alloc, terms)?;
-    only_memory(terms.application(predicate, argument))
+    terms.application(predicate, argument)
 }
 
 // P (@ P)
@@ -115,7 +104,7 @@ fn select_conclusion(alloc: Global, terms: &mut Terms) -> Result<usize, Fault>
 {
     let chosen = choice_application(alloc, terms)?;
     let predicate = select_predicate(alloc, terms)?;
-    let number = only_memory(terms.application(predicate, chosen))?;
+    let number = application(terms, predicate, chosen)?;
     within_limits(alloc, terms, number)
 }
 
@@ -126,7 +115,7 @@ fn choice_application(alloc: Global, terms: &mut Terms) -> Result<usize, Fault>
 {
     let choice = choice(alloc, terms)?;
     let predicate = select_predicate(alloc, terms)?;
-    only_memory(terms.application(choice, predicate))
+    terms.application(choice, predicate)
 }
 
 // @:(A->bool)->A
@@ -136,7 +125,7 @@ fn choice(alloc: Global, terms: &mut Terms) -> Result<usize, Fault>
 {
     let predicates = predicate_type(alloc, terms)?;
     let argument = terms.type_variable(alloc, b"A")?;
-    let ty = only_memory(terms.function_type(predicates, argument))?;
+    let ty = terms.function_type(predicates, argument)?;
     constant(alloc, terms, b"@", ty)
 }
 
@@ -165,5 +154,5 @@ fn predicate_type(alloc: Global, terms: &mut Terms) -> Result<usize, Fault>
 {
     let domain = terms.type_variable(alloc, b"A")?;
     let codomain = terms.boolean()?;
-    only_memory(terms.function_type(domain, codomain))
+    terms.function_type(domain, codomain)
 }
