@@ -1,15 +1,12 @@
 -- What is known before the first line.
-use Rattle.std.proofs.Common.{◌≡◌, ◌⊎◌, ℕ, zero, suc, ◌<◌, ◌≤◌, List, [], ◌∷◌, Bool, true, false, refl, sym, ◌∙◌, ap, subst, inl, inr, Some, None, if◌then◌else◌, arith}
+use Rattle.std.proofs.Common.{◌≡◌, ℕ, zero, suc, List, [], ◌∷◌, Bool, true, false, refl, sym, ◌∙◌, ap, subst, Some, None, if◌then◌else◌}
 use Rattle.std.specs.Prelude.{slice_get, nat_eq}
 use Rattle.std.specs.Str.{bytes_eq}
 use Rattle.std.proofs.lemmas.Bool.{eqb-true}
 use Rattle.std.proofs.lemmas.Option.{get_or_from_slice_get}
 use Rattle.std.proofs.lemmas.Slice.Eq.{bytes_eq-Decides}
 use Rattle.indexmap.specs.IndexMap.{insert_entry}
-use Rattle.hol_model.specs.declared.fault.Fault.{Fault}
-use Rattle.hol_model.specs.declared.fault.Fault.TheVariants.{Memory, TooLarge}
-use Rattle.hol_model.specs.declared.limits.TheConstants.{TYPE_NODES_LIMIT}
-use Rattle.hol_model.specs.Terms.HolType.{HolType, bool_type, function_type, type_nodes}
+use Rattle.hol_model.specs.Terms.HolType.{HolType, bool_type, function_type}
 use Rattle.hol_model.specs.Logic.Theory.{generic_type, equality_name, choice_name, equality_type, choice_type, type_a}
 use Rattle.hol_check_terms.specs.Growth.{IsLonger}
 use Rattle.hol_check_terms.specs.Terms.{TermTable, name_at, type_at, IsGrown}
@@ -53,12 +50,6 @@ choice-typed types a predicate are =
     let variable = type-there types a type_a are.is_variable in
     let predicates = type-there types predicate (function_type type_a bool_type) are.is_predicate in
     λ i. function_type (predicates i) (variable i)
-
--- a type within the limit is made, unless memory is used up
-pub small-function : (fault : Fault) (made wanted : HolType) → made ≡ wanted → type_nodes wanted ≤ TYPE_NODES_LIMIT
-    → (fault ≡ Memory) ⊎ ((fault ≡ TooLarge) × (TYPE_NODES_LIMIT < type_nodes made)) → fault ≡ Memory
-small-function fault made wanted same small refused =
-    elim refused [ inl memory ↦ memory | inr large ↦ let nodes : type_nodes made ≡ type_nodes wanted = ap type_nodes same in absurd (omega (arith, large.1, small, nodes)) ]
 
 -- the two constants in the table
 module _ (table : TermTable) (equality equality_ty choice choice_ty : ℕ) (is_equality : slice_get table.names equality ≡ Some equality_name)

@@ -50,11 +50,12 @@ pub(crate) fn judge_function_type(
     let (Some(a), Some(b)) = (type_at(contents, domain), type_at(contents, codomain)) else {
         return Ok(Err(Cause::Number));
     };
-    match terms.function_type(a, b) {
-        Ok(number) => Ok(Ok(Addition::TypeNumber(number))),
-        Err(Fault::TooLarge) => Ok(Err(Cause::Large)),
-        Err(fault) => Err(fault),
+    let made = terms.function_type(a, b);
+    if let Err(Fault::TooLarge) = made {
+        return Ok(Err(Cause::Large));
     }
+    let number = made?;
+    Ok(Ok(Addition::TypeNumber(number)))
 }
 
 /// A declared type: `shape` in a log of the first version, `name` where the name is none of a declared type, `type`

@@ -5,19 +5,16 @@ use Rattle.std.specs.Map.{lookup}
 use Rattle.std.proofs.lemmas.Bool.{le-leb, ltb-true}
 use Rattle.std.proofs.lemmas.List.{length-map}
 use Rattle.std.proofs.lemmas.Option.{slice_get-get_or, slice_get_read}
-use Rattle.hol_model.specs.Terms.NamedTerm.{NamedTerm, constant, is_within_limits}
-use Rattle.hol_model.specs.Terms.HolType.{bool_type}
-use Rattle.hol_model.specs.Terms.Nameless.{Nameless, bound, image}
+use Rattle.hol_model.specs.Terms.NamedTerm.{NamedTerm}
+use Rattle.hol_model.specs.Terms.Nameless.{bound, image}
 use Rattle.hol_model.specs.Terms.Measures.{nameless_within_limits}
 use Rattle.hol_model.specs.Logs.LogState as given
 use Rattle.hol_model.specs.Logs.LogFaults.{is_no_term}
 use Rattle.hol_model.proofs.Terms.WithinLimits.{within_limits-image}
-use Rattle.hol_check_terms.specs.Terms.{TermTable, type_at, term_at}
+use Rattle.hol_check_terms.specs.Terms.{TermTable, term_at}
 use Rattle.hol_check_terms.proofs.TableLemmas.{is_within}
 use Rattle.hol_check_terms.proofs.GrowthLemmas.{term-there}
-use Rattle.hol_check_changes.specs.Forming.{IsFitting}
-use Rattle.hol_check_written.specs.Written.{named_at, named_terms, Writes}
-use Rattle.hol_check_written.specs.Making.{HasEntry}
+use Rattle.hol_check_written.specs.Written.{named_at, named_terms}
 use Rattle.hol_check_written.specs.declared.written.Written.{Written}
 use Rattle.hol_check_written.proofs.NamedLemmas.{named-length, named-line}
 use Rattle.hol_check_written.proofs.MakingLemmas.{unwritten}

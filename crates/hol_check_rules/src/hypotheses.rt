@@ -71,10 +71,8 @@ pub fn set_of(alloc: Global, terms: &Terms, list: &[usize]) -> Result<Vec<usize>
     }
     let (left, right) = list.split_at(list.len() / 2);
     let left = set_of(alloc, terms, left)?;
-    match set_of(alloc, terms, right) {
-        Ok(right) => union(alloc, terms, &left, &right),
-        Err(fault) => Err(fault),
-    }
+    let right = set_of(alloc, terms, right)?;
+    union(alloc, terms, &left, &right)
 }
 
 // The numbers of a list.

@@ -94,10 +94,8 @@ pub fn add_constant(known: &mut Known, name: usize, ty: usize) -> Result<(), Fau
     ensures kept { OnErr result ((table : TermTable) (entries : Theory) → Knows table known.old.constants.entries known.old.declared.keys entries
         → Knows table known.new.constants.entries known.new.declared.keys entries) }
 {
-    match known.constants.insert(name, ty) {
-        Ok(_replaced) => Ok(()),
-        Err(_failed) => Err(Fault::Memory),
-    }
+    known.constants.insert(name, ty)?;
+    Ok(())
 }
 
 /// Adds a declared type of a new name.
@@ -108,8 +106,6 @@ pub fn add_type(known: &mut Known, name: usize) -> Result<(), Fault>
     ensures kept { OnErr result ((table : TermTable) (entries : Theory) → Knows table known.old.constants.entries known.old.declared.keys entries
         → Knows table known.new.constants.entries known.new.declared.keys entries) }
 {
-    match known.declared.insert_full(name) {
-        Ok((_number, _is_new)) => Ok(()),
-        Err(_failed) => Err(Fault::Memory),
-    }
+    known.declared.insert_full(name)?;
+    Ok(())
 }

@@ -32,14 +32,9 @@ fn eta_conclusion(alloc: Global, terms: &mut Terms) -> Result<usize, Fault>
     ensures formed { IsFormed derivable.eta_axiom result terms.new.terms }
     ensures grows { IsGrown terms.old terms.new }
 {
-    let left = match eta_abstraction(alloc, terms) {
-        Ok(left) => left,
-        Err(_fault) => return Err(Fault::Memory),
-    };
-    match eta_variable(alloc, terms) {
-        Ok(right) => equation_of(alloc, terms, left, right),
-        Err(_fault) => Err(Fault::Memory),
-    }
+    let left = eta_abstraction(alloc, terms)?;
+    let right = eta_variable(alloc, terms)?;
+    equation_of(alloc, terms, left, right)
 }
 
 // \x:A. t x
@@ -48,13 +43,8 @@ fn eta_abstraction(alloc: Global, terms: &mut Terms) -> Result<usize, Fault>
     ensures grows { IsGrown terms.old terms.new }
 {
     let body = eta_application(alloc, terms)?;
-    match terms.type_variable(alloc, b"A") {
-        Ok(ty) => match terms.abstraction(ty, body) {
-            Ok(number) => Ok(number),
-            Err(_fault) => Err(Fault::Memory),
-        },
-        Err(fault) => Err(fault),
-    }
+    let ty = terms.type_variable(alloc, b"A")?;
+    terms.abstraction(ty, body)
 }
 
 // t x, under the binder of x
@@ -63,13 +53,8 @@ fn eta_application(alloc: Global, terms: &mut Terms) -> Result<usize, Fault>
     ensures grows { IsGrown terms.old terms.new }
 {
     let function = eta_variable(alloc, terms)?;
-    match terms.bound(0) {
-        Ok(argument) => match terms.application(function, argument) {
-            Ok(number) => Ok(number),
-            Err(_fault) => Err(Fault::Memory),
-        },
-        Err(fault) => Err(fault),
-    }
+    let argument = terms.bound(0)?;
+    terms.application(function, argument)
 }
 
 // t:A->B
@@ -77,10 +62,8 @@ fn eta_variable(alloc: Global, terms: &mut Terms) -> Result<usize, Fault>
     ensures named { IsNamed derivable.eta_variable result terms.new.terms }
     ensures grows { IsGrown terms.old terms.new }
 {
-    match eta_type(alloc, terms) {
-        Ok(ty) => variable(alloc, terms, b"t", ty),
-        Err(fault) => Err(fault),
-    }
+    let ty = eta_type(alloc, terms)?;
+    variable(alloc, terms, b"t", ty)
 }
 
 // A->B
@@ -89,13 +72,8 @@ fn eta_type(alloc: Global, terms: &mut Terms) -> Result<usize, Fault>
     ensures grows { IsGrown terms.old terms.new }
 {
     let domain = terms.type_variable(alloc, b"A")?;
-    match terms.type_variable(alloc, b"B") {
-        Ok(codomain) => match terms.function_type(domain, codomain) {
-            Ok(number) => Ok(number),
-            Err(_fault) => Err(Fault::Memory),
-        },
-        Err(fault) => Err(fault),
-    }
+    let codomain = terms.type_variable(alloc, b"B")?;
+    terms.function_type(domain, codomain)
 }
 
 /// A predicate that holds of something holds of its choice.
@@ -116,10 +94,7 @@ fn select_hypothesis(alloc: Global, terms: &mut Terms) -> Result<usize, Fault>
 {
     let predicate = select_predicate(alloc, terms)?;
     let argument = select_variable(alloc, terms)?;
-    match terms.application(predicate, argument) {
-        Ok(number) => Ok(number),
-        Err(_fault) => Err(Fault::Memory),
-    }
+    terms.application(predicate, argument)
 }
 
 // P (@ P)
@@ -127,18 +102,10 @@ fn select_conclusion(alloc: Global, terms: &mut Terms) -> Result<usize, Fault>
     ensures formed { IsFormed derivable.select_conclusion result terms.new.terms }
     ensures grows { IsGrown terms.old terms.new }
 {
-    let chosen = match choice_application(alloc, terms) {
-        Ok(chosen) => chosen,
-        Err(_fault) => return Err(Fault::Memory),
-    };
-    let predicate = match select_predicate(alloc, terms) {
-        Ok(predicate) => predicate,
-        Err(_fault) => return Err(Fault::Memory),
-    };
-    match application(terms, predicate, chosen) {
-        Ok(number) => within_limits(alloc, terms, number),
-        Err(_fault) => Err(Fault::Memory),
-    }
+    let chosen = choice_application(alloc, terms)?;
+    let predicate = select_predicate(alloc, terms)?;
+    let number = application(terms, predicate, chosen)?;
+    within_limits(alloc, terms, number)
 }
 
 // @ P
@@ -147,13 +114,8 @@ fn choice_application(alloc: Global, terms: &mut Terms) -> Result<usize, Fault>
     ensures grows { IsGrown terms.old terms.new }
 {
     let choice = choice(alloc, terms)?;
-    match select_predicate(alloc, terms) {
-        Ok(predicate) => match terms.application(choice, predicate) {
-            Ok(number) => Ok(number),
-            Err(_fault) => Err(Fault::Memory),
-        },
-        Err(fault) => Err(fault),
-    }
+    let predicate = select_predicate(alloc, terms)?;
+    terms.application(choice, predicate)
 }
 
 // @:(A->bool)->A
@@ -163,10 +125,8 @@ fn choice(alloc: Global, terms: &mut Terms) -> Result<usize, Fault>
 {
     let predicates = predicate_type(alloc, terms)?;
     let argument = terms.type_variable(alloc, b"A")?;
-    match terms.function_type(predicates, argument) {
-        Ok(ty) => constant(alloc, terms, b"@", ty),
-        Err(_fault) => Err(Fault::Memory),
-    }
+    let ty = terms.function_type(predicates, argument)?;
+    constant(alloc, terms, b"@", ty)
 }
 
 // P:A->bool
@@ -174,10 +134,8 @@ fn select_predicate(alloc: Global, terms: &mut Terms) -> Result<usize, Fault>
     ensures named { IsNamed derivable.select_predicate result terms.new.terms }
     ensures grows { IsGrown terms.old terms.new }
 {
-    match predicate_type(alloc, terms) {
-        Ok(ty) => variable(alloc, terms, b"P", ty),
-        Err(fault) => Err(fault),
-    }
+    let ty = predicate_type(alloc, terms)?;
+    variable(alloc, terms, b"P", ty)
 }
 
 // x:A
@@ -185,10 +143,8 @@ fn select_variable(alloc: Global, terms: &mut Terms) -> Result<usize, Fault>
     ensures named { IsNamed derivable.select_variable result terms.new.terms }
     ensures grows { IsGrown terms.old terms.new }
 {
-    match terms.type_variable(alloc, b"A") {
-        Ok(ty) => variable(alloc, terms, b"x", ty),
-        Err(fault) => Err(fault),
-    }
+    let ty = terms.type_variable(alloc, b"A")?;
+    variable(alloc, terms, b"x", ty)
 }
 
 // A->bool
@@ -197,11 +153,6 @@ fn predicate_type(alloc: Global, terms: &mut Terms) -> Result<usize, Fault>
     ensures grows { IsGrown terms.old terms.new }
 {
     let domain = terms.type_variable(alloc, b"A")?;
-    match terms.boolean() {
-        Ok(codomain) => match terms.function_type(domain, codomain) {
-            Ok(number) => Ok(number),
-            Err(_fault) => Err(Fault::Memory),
-        },
-        Err(fault) => Err(fault),
-    }
+    let codomain = terms.boolean()?;
+    terms.function_type(domain, codomain)
 }

@@ -6,10 +6,9 @@ ghost use Rattle.hol_check_rules.specs.Steps as spec;
 ghost use Rattle.hol_check_rules.specs.Definitions.{IsDefined};
 ghost use Rattle.hol_check_changes.specs.Forming.{IsFitting};
 
-use hol_check_changes::forming::equation_of;
+use hol_check_changes::forming::{equation_of, fitting_type};
 use hol_check_terms::reflection::reflects;
 use hol_check_terms::terms::Terms;
-use hol_check_terms::typing::type_of;
 use hol_model::{Cause, Fault};
 use std::alloc::Global;
 
@@ -34,10 +33,7 @@ pub fn define(
     ensures refused { IfErr result (λ fault. fault ≡ Memory) }
     ensures grows { IsGrown terms.old terms.new }
 {
-    let ty = match type_of(alloc, terms, body) {
-        Ok(ty) => ty,
-        Err(_fault) => return Err(Fault::Memory),
-    };
+    let ty = fitting_type(alloc, terms, body)?;
     let definable = is_definable(alloc, terms, ty, body)?;
     if !definable {
         return Ok(Err(Cause::Rule));

@@ -41,11 +41,11 @@ pub fn inst(
     ensures taken { Takes (spec.inst_step (sequent_in terms.old.terms premise.now) (term_pairs_in terms.old.terms pairs.now)) result terms.new.terms }
     ensures grows { IsGrown terms.old terms.new }
 {
-    match are_replacements(alloc, terms, pairs) {
-        Ok(true) => changed_theorem(alloc, terms, &Change::Put(pairs), premise),
-        Ok(false) => Ok(Err(Cause::Kind)),
-        Err(fault) => Err(fault),
+    let replaces = are_replacements(alloc, terms, pairs)?;
+    if !replaces {
+        return Ok(Err(Cause::Kind));
     }
+    changed_theorem(alloc, terms, &Change::Put(pairs), premise)
 }
 
 /// A theorem with type variables replaced, all at once, by pairs (new, old), of which the first counts.
@@ -120,9 +120,7 @@ fn is_type_variable(terms: &Terms, ty: usize) -> bool
 {
     match terms.type_shape(ty) {
         TypeShape::Variable(_name) => true,
-        TypeShape::Boolean => false,
-        TypeShape::Function(_domain, _codomain) => false,
-        TypeShape::Declared(_name) => false,
+        _ => false,
     }
 }
 
@@ -182,8 +180,6 @@ fn change_within(
     ensures changed { (meaning : PartChange) → IsMeant terms.old change.now meaning → IsFormed (changed meaning 0 (term_at terms.old.terms number)) result terms.new.terms }
     ensures grows { IsGrown terms.old terms.new }
 {
-    match change_whole(alloc, terms, change, number) {
-        Ok(new) => within_limits(alloc, terms, new),
-        Err(fault) => Err(fault),
-    }
+    let new = change_whole(alloc, terms, change, number)?;
+    within_limits(alloc, terms, new)
 }

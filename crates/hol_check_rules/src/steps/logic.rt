@@ -26,11 +26,11 @@ pub fn assume(
     ensures grows { IsGrown terms.old terms.new }
 {
     let hypotheses = set_of(alloc, terms, &[term])?;
-    match is_formula(alloc, terms, term) {
-        Ok(true) => conclude(hypotheses, Ok(term)),
-        Ok(false) => Ok(Err(Cause::Kind)),
-        Err(fault) => Err(fault),
+    let formula = is_formula(alloc, terms, term)?;
+    if !formula {
+        return Ok(Err(Cause::Kind));
     }
+    conclude(hypotheses, Ok(term))
 }
 
 /// From `p = q` and `p` follows `q`.

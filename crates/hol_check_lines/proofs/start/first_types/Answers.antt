@@ -2,7 +2,8 @@ use Rattle.std.proofs.Common.{◌∙◌, ap, Some, arith}
 use Rattle.std.proofs.lemmas.Result.{err_from_is_err_and}
 use Rattle.hol_check_terms.proofs.TableLemmas.{is_within}
 use Rattle.hol_check_terms.proofs.GrowthLemmas.{type-place}
-use Rattle.hol_check_lines.proofs.StartLemmas.{predicates-made, predicates-kept, equality-typed, choice-typed, small-function}
+use Rattle.hol_check_rules.proofs.AxiomLemmas.{small-function}
+use Rattle.hol_check_lines.proofs.StartLemmas.{predicates-made, predicates-kept, equality-typed, choice-typed}
 use Rattle.hol_check_lines.proofs.start.first_types.Goals as goal
 
 pub returns-in_err-equality-clause-refused : goal.returns-in_err-equality-clause-refused

@@ -1,13 +1,9 @@
-use Rattle.hol_check_rules.proofs.AxiomLemmas.{function-named, grown-twice}
+use Rattle.std.proofs.Common.{arith}
+use Rattle.hol_check_rules.proofs.AxiomLemmas.{function-is, function-named}
 use Rattle.hol_check_rules.proofs.steps.axioms.predicate_type.Goals as goal
 
-pub returns-in-Ok-function_type-clause-named : goal.returns-in-Ok-function_type-clause-named
-returns-in-Ok-function_type-clause-named c = record {
-  number = function-named c.type_variable.new.self c.boolean.new.self c.function_type.new.self.types c.in_ok-domain.domain c.in-Ok.codomain c.in-Ok-function_type.number _ _
-      c.in_ok-domain.ensures.number c.boolean.ensures.grows c.in-Ok.ensures.number c.in-Ok-function_type.ensures.number;
-  refused = tt;
-}
-
-pub returns-in-Ok-function_type-clause-grows : goal.returns-in-Ok-function_type-clause-grows
-returns-in-Ok-function_type-clause-grows c = grown-twice c.args.terms.now c.type_variable.new.self c.boolean.new.self c.function_type.new.self c.type_variable.ensures.grows
-    c.boolean.ensures.grows c.function_type.ensures.grows
+pub returns-clause-named : goal.returns-clause-named
+returns-clause-named c =
+    let same = function-is c.type_variable.new.self c.boolean.new.self c.in_ok-domain.domain c.in_ok-codomain.codomain _ _ c.in_ok-domain.ensures.number
+    c.boolean.ensures.grows c.in_ok-codomain.ensures.number in
+    function-named c.function_type.new.self.types _ _ c.function_type.result same (omega arith) c.function_type.ensures.number c.function_type.ensures.refused

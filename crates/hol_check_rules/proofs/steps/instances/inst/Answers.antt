@@ -28,8 +28,8 @@ changed_theorem-requires-clause-meaning c =
 pub changed_theorem-requires-clause-premise : goal.changed_theorem-requires-clause-premise
 changed_theorem-requires-clause-premise c = theorem-grown c.args.terms.now c.are_replacements.new.terms c.are_replacements.ensures.grows c.args.premise.now c.requires.premise
 
-pub returns-in-Ok-true-clause-taken : goal.returns-in-Ok-true-clause-taken
-returns-in-Ok-true-clause-taken c =
+pub returns-clause-taken : goal.returns-clause-taken
+returns-clause-taken c =
     let t0 = c.args.terms.now in
     let t1 = c.are_replacements.new.terms in
     let theta = term_pairs_in t0.terms c.args.pairs.now in
@@ -44,5 +44,5 @@ returns-in-Ok-true-clause-taken c =
     }) in
     let still = subst (λ s. Takes (changed_step (changed (putting (term_instance_of theta)) 0) s) result now)
     (sequent-still t0 t1 c.are_replacements.ensures.grows c.args.premise.now c.requires.premise) taken in
-    typed-taken _ _ _ result now (ap not (sym c.in-Ok-true.ensures.are ∙ c.in-Ok-true.field-0-test)) refl
+    typed-taken _ _ _ result now (ap not (sym c.in_ok-replaces.ensures.are ∙ c.if-not-replaces.false)) refl
     (subst (λ f. Takes (changed_step f (sequent_in t0.terms c.args.premise.now)) result now) (putting-is theta) still)
