@@ -194,9 +194,10 @@ pub fn of_body(
         → Joins (conversions.of_body library.old.recorder.theory name ty (answered library.old.recorder.theory body part)) (answered library.old.recorder.theory t.now result) }
     ensures makes { MakesAnswer library.old library.new t.now result }
 {
-    match part? {
-        Converted::Same => unchanged(t),
-        Converted::Changed(part) => as_answer(abs(library, alloc, binder, &part)),
+    match part {
+        Ok(Converted::Same) => unchanged(t),
+        Ok(Converted::Changed(part)) => as_answer(abs(library, alloc, binder, &part)),
+        Err(fault) => Err(fault),
     }
 }
 

@@ -4,18 +4,18 @@ use Rattle.hol_conv_rules.proofs.Making.{makes_nothing}
 use Rattle.hol_conv_rules.proofs.Same.{body-unchanged}
 use Rattle.hol_conv_rules.proofs.converted.of_body.Goals as goal
 
-pub returns-in-Same-clause-joins : goal.returns-in-Same-clause-joins
-returns-in-Same-clause-joins c name ty body bound is =
+pub returns-in-Ok-Same-clause-joins : goal.returns-in-Ok-Same-clause-joins
+returns-in-Ok-Same-clause-joins c name ty body bound is =
     let theory = c.args.library.now.recorder.theory in
-    body-unchanged theory c.args.t.now name ty body c.args.part c.unchanged.result (c.in-Same.is ∙ ap Ok c.in-Same.field-0-is) is c.requires.known
+    body-unchanged theory c.args.t.now name ty body c.args.part c.unchanged.result (c.in-Ok-Same.is ∙ ap Ok c.in-Ok-Same.field-0-is) is c.requires.known
     (c.unchanged.ensures.outcome theory c.requires.known)
 
-pub returns-in-Same-clause-makes : goal.returns-in-Same-clause-makes
-returns-in-Same-clause-makes c = record {
+pub returns-in-Ok-Same-clause-makes : goal.returns-in-Ok-Same-clause-makes
+returns-in-Ok-Same-clause-makes c = record {
   library = c.requires.library;
   continued = (makes_nothing c.args.library.now Memory c.requires.library).continued;
   made = c.unchanged.ensures.answer c.args.library.now;
 }
 
-pub returns-in-Changed-clause-makes : goal.returns-in-Changed-clause-makes
-returns-in-Changed-clause-makes c = c.as_answer.ensures.made c.args.library.now c.abs.new.library c.args.t.now c.abs.ensures.makes
+pub returns-in-Ok-Changed-clause-makes : goal.returns-in-Ok-Changed-clause-makes
+returns-in-Ok-Changed-clause-makes c = c.as_answer.ensures.made c.args.library.now c.abs.new.library c.args.t.now c.abs.ensures.makes
