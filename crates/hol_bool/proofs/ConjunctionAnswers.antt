@@ -45,13 +45,16 @@ conj-leads theory a b terms one two terms_are room fits =
 abbrev pub mp_equation : Nameless → Nameless → Nameless
 mp_equation a b = nameless_equation bool_type (nameless.implication a b) b
 
+pub mp-implication-fits : (room : Bool) (a b : Nameless) → FitsIf room (mp_equation a b) → FitsIf room (nameless.implication a b)
+mp-implication-fits room a b fits = fits-left room (const equality_name (equality_type bool_type)) (nameless.implication a b) b fits
+
 pub mp-leads : (theory : Theory) (whole a b : NamedTerm) (terms : List (NamedTerm × NamedTerm)) → IsFormula theory whole → IsFormula theory a
     → IsFormula theory b → terms ≡ at_p_q a b → image whole ≡ nameless.implication (image a) (image b)
     → (room : Bool) → FitsIf room (mp_equation (image a) (image b)) → LeadsTo theory 26 terms room (image a) (image (equation whole b))
 mp-leads theory whole a b terms zero one two terms_are whole_is room fits =
     let image_is : image (equation whole b) ≡ mp_equation (image a) (image b) = image-equation whole b bool_type zero.typed ∙ ap (λ (u : Nameless). nameless_equation bool_type u (image b)) whole_is in
     leads-p_q theory 26 p (equation (implication p q) q) a b terms refl refl one two terms_are room (image a) (image (equation whole b)) refl image_is
-    (fits-left room (const implies_name binary) (image a) (image b) (fits-left room (const equality_name (equality_type bool_type)) (nameless.implication (image a) (image b)) (image b) fits))
+    (fits-left room (const implies_name binary) (image a) (image b) (mp-implication-fits room (image a) (image b) fits))
     (subst (λ (u : Nameless). FitsIf room u) (sym image_is) fits)
 
 -- sizes

@@ -1,5 +1,5 @@
 -- Steps by the theorems of the prelude: what has to fit, and instances at formulas.
-use Rattle.std.proofs.Common.{◌≡◌, ℕ, List, [], ◌∷◌, Bool, true, false, ◌&&◌, refl, sym, ◌∙◌, subst, Some, None, Result, arith}
+use Rattle.std.proofs.Common.{◌≡◌, ℕ, List, [], ◌∷◌, map, Bool, true, false, ◌&&◌, refl, sym, ◌∙◌, subst, Some, None, Result, arith}
 use Rattle.std.specs.Prelude.{slice_get}
 use Rattle.std.specs.List.{list_all}
 use Rattle.hol_model.specs.declared.fault.Fault.{Fault}
@@ -20,7 +20,7 @@ use Rattle.hol_prelude.specs.HasLogic.{HasLogic}
 use Rattle.hol_equal.specs.Formulas.{IsFormula}
 use Rattle.hol_equal.specs.Room.{FitsIf}
 use Rattle.hol_prelude.specs.declared.stored.Bool.{Bool as Stored}
-use Rattle.hol_bool.specs.PreludeInstances.{LeadsTo, Says, at_p, at_p_q, at_p_q_r}
+use Rattle.hol_bool.specs.PreludeInstances.{LeadsTo, Concludes, Says, at_p, at_p_q, at_p_q_r}
 use Rattle.hol_equal.proofs.Sizes.{sized-equation, sized-within}
 use Rattle.hol_equal.proofs.StepLemmas.{still_made, now_made}
 use Rattle.hol_bool.proofs.RoomLemmas.{fits-within}
@@ -45,6 +45,35 @@ leads-shows theory number terms room premise conclusion leads theorem is =
     let there : Some (shown (leads.hypothesis ∷ []) leads.stated) ≡ Some theorem = sym leads.theorem_is ∙ is in
     let same : shown (leads.hypothesis ∷ []) leads.stated ≡ theorem = cc in
     subst (λ (t : Theorem). Shows t (image leads.hypothesis ∷ []) (image leads.stated)) same (record { same_set = record { to = λ x m. m; back = λ x m. m }; concludes = refl })
+
+-- what the theorem of the number concludes
+
+pub concludes-shows : (theory : Theory) (number : ℕ) (terms : List (NamedTerm × NamedTerm)) (conclusion : Nameless) (concludes : Concludes theory number terms conclusion) (theorem : Theorem)
+    → slice_get prelude_theorems number ≡ Some theorem → Shows theorem (map image concludes.hypotheses) (image concludes.stated)
+concludes-shows theory number terms conclusion concludes theorem is =
+    let there : Some (shown concludes.hypotheses concludes.stated) ≡ Some theorem = sym concludes.theorem_is ∙ is in
+    let same : shown concludes.hypotheses concludes.stated ≡ theorem = cc in
+    subst (λ (t : Theorem). Shows t (map image concludes.hypotheses) (image concludes.stated)) same (record { same_set = record { to = λ x m. m; back = λ x m. m }; concludes = refl })
+
+pub leads-concludes : (theory : Theory) (number : ℕ) (terms : List (NamedTerm × NamedTerm)) (room : Bool) (premise conclusion : Nameless)
+    → LeadsTo theory number terms room premise conclusion → Concludes theory number terms conclusion
+leads-concludes theory number terms room premise conclusion leads = record {
+  hypotheses = leads.hypothesis ∷ [];
+  stated = leads.stated;
+  theorem_is = leads.theorem_is;
+  may_replace = leads.may_replace;
+  conclusion_is = leads.conclusion_is;
+}
+
+pub says-concludes : (theory : Theory) (number : ℕ) (terms : List (NamedTerm × NamedTerm)) (room : Bool) (conclusion : Nameless)
+    → Says theory number terms room conclusion → Concludes theory number terms conclusion
+says-concludes theory number terms room conclusion says = record {
+  hypotheses = [];
+  stated = says.stated;
+  theorem_is = says.theorem_is;
+  may_replace = says.may_replace;
+  conclusion_is = says.conclusion_is;
+}
 
 -- where there is no room, nothing has to fit
 pub where-no-room : (term : Nameless) → FitsIf false term
@@ -143,11 +172,3 @@ p_q_r-passes theory a b c one two three =
     let t = tests theory b two in
     let u = tests theory c three in
     rw (one.typed, two.typed, three.typed, s.0, s.1, s.2, t.0, t.1, t.2, u.0, u.1, u.2) refl
-
--- so may lists of them, as the program makes these
-
-pub p-known : (theory : Theory) (a : NamedTerm) (terms : List (NamedTerm × NamedTerm)) → terms ≡ at_p a → IsFormula theory a → replacements_refusal theory terms ≡ None
-p-known theory a terms are one = subst (λ (l : List (NamedTerm × NamedTerm)). replacements_refusal theory l ≡ None) (sym are) (p-passes theory a one)
-
-pub p_q-known : (theory : Theory) (a b : NamedTerm) (terms : List (NamedTerm × NamedTerm)) → terms ≡ at_p_q a b → IsFormula theory a → IsFormula theory b → replacements_refusal theory terms ≡ None
-p_q-known theory a b terms are one two = subst (λ (l : List (NamedTerm × NamedTerm)). replacements_refusal theory l ≡ None) (sym are) (p_q-passes theory a b one two)

@@ -1,5 +1,5 @@
 -- Theorems of the prelude at formulas for their variables p, q and r.
-use Rattle.std.specs.Prelude.{◌≡◌, ℕ, List, [], ◌∷◌, true, false, Some, None, Result, slice_get}
+use Rattle.std.specs.Prelude.{◌≡◌, ℕ, List, [], ◌∷◌, true, Some, None, Result, slice_get}
 use Rattle.hol_model.specs.declared.fault.Fault.{Fault}
 use Rattle.std.specs.List.{list_all}
 use Rattle.hol_model.specs.Terms.NamedTerm.{NamedTerm}
@@ -35,10 +35,13 @@ pub record LeadsTo (theory : Theory) (number : ℕ) (terms : List (NamedTerm × 
   pub premise_fits : FitsIf room premise
   pub conclusion_fits : FitsIf room conclusion
 
--- it leads there from some term
-pub record Leads (theory : Theory) (number : ℕ) (terms : List (NamedTerm × NamedTerm)) (conclusion : Nameless) : Type 0 where
-  pub premise : Nameless
-  pub leads : LeadsTo theory number terms false premise conclusion
+-- at these terms, the theorem of this number of the prelude concludes this
+pub record Concludes (theory : Theory) (number : ℕ) (terms : List (NamedTerm × NamedTerm)) (conclusion : Nameless) : Type 0 where
+  pub hypotheses : List NamedTerm
+  pub stated : NamedTerm
+  pub theorem_is : slice_get prelude_theorems number ≡ Some (shown hypotheses stated)
+  pub may_replace : replacements_refusal theory terms ≡ None
+  pub conclusion_is : conclusion ≡ instance_of [] terms (image stated)
 
 -- from the hypothesis of the theorem of this number of the prelude at these terms, what is stated
 abbrev pub TheoremDerives : Theory → ℕ → List (NamedTerm × NamedTerm) → NamedTerm → Theorem → Result Recorded Fault → Type 0

@@ -19,7 +19,7 @@ ghost use Rattle.hol_equal.specs.Sequents.{Shows, DerivesIf, Continues};
 ghost use Rattle.hol_equal.specs.Inferred.{Infers};
 
 use crate::formula_terms::{Sides, connect, for_p_q, for_p_q_r};
-use crate::implication_rules::{disch_in_room, mp_in_room};
+use crate::implication_rules::{disch_in_room, mp_known};
 use crate::prelude_rules::{by_leading_theorem, pass_formula, sides_of};
 use hol_alpha::aconv;
 use hol_equal::conclusion_of;
@@ -156,6 +156,7 @@ fn with_case(
     requires consequent { IsFormula recorder.old.theory consequent.now }
     requires whole { IsMade recorder.old whole.now }
     requires case { IsMade recorder.old case.now }
+    requires fits { image whole.now.theorem.conclusion ≡ nameless.implication (nameless.implication (image p.now) (image case.now.theorem.conclusion)) (image consequent.now) }
     ensures continues { Continues recorder.old recorder.new result }
     ensures names { IfOk result (λ made. made.theorem.conclusion ≡ consequent.now) }
     ensures derives { (h k : List Nameless) (r : Nameless) (room : Room)
@@ -165,7 +166,7 @@ fn with_case(
         (image consequent.now)) → DerivesIf room result (without (image p.now) k ++ h) (image consequent.now) }
 {
     let implication = disch_in_room(recorder, alloc, logic, p, case)?;
-    mp_in_room(recorder, alloc, logic, consequent, whole, &implication)
+    mp_known(recorder, alloc, logic, consequent, whole, &implication)
 }
 
 // DISJ_CASES, with the room that it needs: from `p \/ q`, `r` and `r`, the `r` of the first case.
@@ -186,6 +187,7 @@ fn by_cases(
     requires whole { theorem.now.theorem.conclusion ≡ disjunction sides.left.now sides.right.now }
     requires first { IsMade recorder.old first.now }
     requires second { IsMade recorder.old second.now }
+    requires meet { image first.now.theorem.conclusion ≡ image second.now.theorem.conclusion }
     ensures continues { Continues recorder.old recorder.new result }
     ensures names { IfOk result (λ made. made.theorem.conclusion ≡ first.now.theorem.conclusion) }
     ensures derives { (h i j : List Nameless) (r : Nameless) (room : Room)

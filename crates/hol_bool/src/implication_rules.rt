@@ -17,9 +17,7 @@ ghost use Rattle.hol_equal.specs.Inferred.{Infers};
 
 use crate::conjunction_rules::conj_in_room;
 use crate::formula_terms::{connect, equivalence, for_p_q};
-use crate::prelude_rules::{
-    by_leading_theorem, by_theorem, leading_theorem, pass_formula, sides_of,
-};
+use crate::prelude_rules::{by_leading_theorem, instance_of_theorem, pass_formula, sides_of};
 use hol_alpha::aconv;
 use hol_equal::steps::{self, conclusion_of};
 use hol_journal::{Rec, Recorder};
@@ -29,8 +27,37 @@ use hol_prelude::numbers::{CONJUNCT1, DISCH, MP};
 use hol_terms::Term;
 use std::alloc::Global;
 
-/// MP, with the room that it needs: from `p ==> q` and `p`, the `q` that is handed in.
+/// MP, of an implication and its left side, which are not compared for it.
 #[tactic(auto, using(hol_equal::proofs::StepLemmas::still_made, hol_equal::proofs::StepLemmas::now_made))]
+pub(crate) fn mp_known(
+    recorder: &mut Recorder,
+    alloc: Global,
+    logic: &Bool,
+    consequent: &Term,
+    first: &Rec,
+    second: &Rec,
+) -> Result<Rec, Fault>
+    requires logic { HasLogic recorder.old logic.now }
+    requires consequent { IsFormula recorder.old.theory consequent.now }
+    requires first { IsMade recorder.old first.now }
+    requires second { IsMade recorder.old second.now }
+    requires fits { image first.now.theorem.conclusion ≡ nameless.implication (image second.now.theorem.conclusion) (image consequent.now) }
+    ensures continues { Continues recorder.old recorder.new result }
+    ensures names { IfOk result (λ made. made.theorem.conclusion ≡ consequent.now) }
+    ensures derives { (h k : List Nameless) (p : Nameless) (room : Room) → Shows first.now.theorem h (nameless.implication p (image consequent.now))
+        → Shows second.now.theorem k p → FitsIf room (nameless_equation bool_type (nameless.implication p (image consequent.now))
+        (image consequent.now)) → DerivesIf room result (k ++ h) (image consequent.now) }
+{
+    let whole = conclusion_of(recorder, first);
+    let antecedent = conclusion_of(recorder, second);
+    let stated = equivalence(alloc, whole, consequent)?;
+    let terms = for_p_q(alloc, antecedent, consequent)?;
+    let equation = by_leading_theorem(recorder, alloc, logic, MP, &terms, &stated, second)?;
+    steps::eq_mp_known(recorder, alloc, &equation, first)
+}
+
+/// MP, with the room that it needs: from `p ==> q` and `p`, the `q` that is handed in. Compares the first conclusion with
+/// that implication.
 pub fn mp_in_room(
     recorder: &mut Recorder,
     alloc: Global,
@@ -51,10 +78,11 @@ pub fn mp_in_room(
 {
     let whole = conclusion_of(recorder, first);
     let antecedent = conclusion_of(recorder, second);
-    let stated = equivalence(alloc, whole, consequent)?;
-    let terms = for_p_q(alloc, antecedent, consequent)?;
-    let equation = by_theorem(recorder, alloc, logic, MP, &terms, &stated, second)?;
-    steps::eq_mp_known(recorder, alloc, &equation, first)
+    let implication = connect(alloc, "==>", antecedent, consequent)?;
+    if !aconv(whole, &implication) {
+        return Err(Fault::NotAlpha);
+    }
+    mp_known(recorder, alloc, logic, consequent, first, second)
 }
 
 /// MP: from `p ==> q` and `p`, `q`, in at most six steps. Refused where the first conclusion is no implication, and then where
@@ -80,7 +108,7 @@ pub fn mp(
     if !aconv(sides.left, conclusion_of(recorder, second)) {
         return Err(Fault::NotAlpha);
     }
-    mp_in_room(recorder, alloc, logic, sides.right, first, second)
+    mp_known(recorder, alloc, logic, sides.right, first, second)
 }
 
 // From `p /\ q`, as a hypothesis, `p`.
@@ -99,7 +127,7 @@ fn first_of_both(
         → DerivesIf room result (nameless.conjunction (image p.now) (image q.now) ∷ []) (image p.now) }
 {
     let terms = for_p_q(alloc, p, q)?;
-    leading_theorem(recorder, alloc, logic, CONJUNCT1, &terms, p)
+    instance_of_theorem(recorder, alloc, logic, CONJUNCT1, &terms, p)
 }
 
 // From `q`, `p /\ q <=> p` without the hypothesis `p`.
@@ -194,7 +222,7 @@ fn undisch_in_room(
     let whole = conclusion_of(recorder, premise);
     let stated = equivalence(alloc, whole, q)?;
     let terms = for_p_q(alloc, p, q)?;
-    let equation = leading_theorem(recorder, alloc, logic, MP, &terms, &stated)?;
+    let equation = instance_of_theorem(recorder, alloc, logic, MP, &terms, &stated)?;
     steps::eq_mp_known(recorder, alloc, &equation, premise)
 }
 

@@ -6,7 +6,6 @@ ghost use Rattle.hol_model.specs.Logic.Theory.{IsLegal, generic_type};
 ghost use Rattle.hol_model.specs.Logic.Logic.{logical_definitions, binary};
 ghost use Rattle.hol_model.specs.Logic.NamedLogic.{dest_connected, dest_negation};
 ghost use Rattle.hol_model.specs.Terms.Nameless.{Nameless, image};
-ghost use Rattle.hol_model.specs.Kernel.Instantiation.{replacements_refusal};
 ghost use Rattle.hol_model.specs.Kernel.Rules.{first_unknown};
 ghost use Rattle.hol_journal.specs.Journal.{IsMade};
 ghost use Rattle.hol_prelude.specs.Prelude.{prelude_theorems};
@@ -14,12 +13,10 @@ ghost use Rattle.hol_prelude.specs.HasLogic.{HasLogic};
 ghost use Rattle.hol_equal.specs.Formulas.{IsFormula, AreSides, IsNegated, IsPassed, IsRefused};
 ghost use Rattle.hol_equal.specs.Room.{Room};
 ghost use Rattle.hol_equal.specs.Sequents.{DerivesIf, Continues};
-ghost use Rattle.hol_bool.specs.PreludeInstances.{LeadsTo, Leads, Says, TheoremDerives};
+ghost use Rattle.hol_bool.specs.PreludeInstances.{LeadsTo, Concludes, Says, TheoremDerives};
 
 use crate::formula_terms::{Sides, connected_sides, negated_part};
-use hol_equal::{
-    by_fitting_lemma, by_lemma_known, conclusion_of, instance_known, named_known, named_same,
-};
+use hol_equal::{by_fitting_lemma, conclusion_of, instance_known, named_same};
 use hol_journal::{Rec, Recorder};
 use hol_model::Fault;
 use hol_prelude::{Bool, theorem_of};
@@ -27,32 +24,8 @@ use hol_terms::Term;
 use std::alloc::Global;
 
 /// From the hypothesis of a theorem of the prelude at these terms, its conclusion there with these names, in three steps,
-/// and two more where a variable is bound in it. The theory knows the terms and what is stated, which are not walked for it.
-pub(crate) fn by_theorem(
-    recorder: &mut Recorder,
-    alloc: Global,
-    logic: &Bool,
-    number: usize,
-    terms: &[(Term, Term)],
-    stated: &Term,
-    premise: &Rec,
-) -> Result<Rec, Fault>
-    requires logic { HasLogic recorder.old logic.now }
-    requires number { number < length prelude_theorems }
-    requires premise { IsMade recorder.old premise.now }
-    requires known { replacements_refusal recorder.old.theory terms.now ≡ None }
-    requires stated { IsFormula recorder.old.theory stated.now }
-    ensures continues { Continues recorder.old recorder.new result }
-    ensures names { IfOk result (λ made. made.theorem.conclusion ≡ stated.now) }
-    ensures derives { TheoremDerives recorder.old.theory number terms.now stated.now premise.now.theorem result }
-{
-    let lemma = theorem_of(recorder, logic, number);
-    let answer = by_lemma_known(recorder, alloc, &[], terms, lemma, premise)?;
-    named_known(recorder, alloc, stated, &answer)
-}
-
-/// The same, where a proof shows that the theorem of the prelude leads from the premise to what is stated: neither is
-/// compared with the theorem at the terms.
+/// and two more where a variable is bound in it. A proof shows that the theorem leads from the premise to what is stated:
+/// neither is compared with the theorem at the terms.
 pub(crate) fn by_leading_theorem(
     recorder: &mut Recorder,
     alloc: Global,
@@ -77,31 +50,7 @@ pub(crate) fn by_leading_theorem(
 }
 
 /// A theorem of the prelude at these terms, whose conclusion there has these names, in one step, and two more where a variable is
-/// bound in it. Its hypothesis is kept. A proof shows what is stated, so that nothing is compared.
-pub(crate) fn leading_theorem(
-    recorder: &mut Recorder,
-    alloc: Global,
-    logic: &Bool,
-    number: usize,
-    terms: &[(Term, Term)],
-    stated: &Term,
-) -> Result<Rec, Fault>
-    requires logic { HasLogic recorder.old logic.now }
-    requires number { number < length prelude_theorems }
-    requires stated { IsFormula recorder.old.theory stated.now }
-    requires leads { Leads recorder.old.theory number terms.now (image stated.now) }
-    ensures continues { Continues recorder.old recorder.new result }
-    ensures names { IfOk result (λ made. made.theorem.conclusion ≡ stated.now) }
-    ensures derives { (premise : Nameless) (room : Room) → LeadsTo recorder.old.theory number terms.now room premise (image stated.now)
-        → DerivesIf room result (premise ∷ []) (image stated.now) }
-{
-    let lemma = theorem_of(recorder, logic, number);
-    let answer = instance_known(recorder, alloc, &[], terms, lemma)?;
-    named_same(recorder, alloc, stated, &answer)
-}
-
-/// A theorem of the prelude without hypotheses, at these terms and with these names, in one step, and two more where a
-/// variable is bound in it. The theory knows the terms and what is stated, which are not walked for it.
+/// bound in it. Its hypothesis is kept, where it has one. A proof shows what is stated, so that nothing is compared.
 pub(crate) fn instance_of_theorem(
     recorder: &mut Recorder,
     alloc: Global,
@@ -112,15 +61,17 @@ pub(crate) fn instance_of_theorem(
 ) -> Result<Rec, Fault>
     requires logic { HasLogic recorder.old logic.now }
     requires number { number < length prelude_theorems }
-    requires known { replacements_refusal recorder.old.theory terms.now ≡ None }
     requires stated { IsFormula recorder.old.theory stated.now }
+    requires concludes { Concludes recorder.old.theory number terms.now (image stated.now) }
     ensures continues { Continues recorder.old recorder.new result }
     ensures names { IfOk result (λ made. made.theorem.conclusion ≡ stated.now) }
-    ensures derives { (room : Room) → Says recorder.old.theory number terms.now room (image stated.now) → DerivesIf room result [] (image stated.now) }
+    ensures derives { (premise : Nameless) (room : Room) → LeadsTo recorder.old.theory number terms.now room premise (image stated.now)
+        → DerivesIf room result (premise ∷ []) (image stated.now) }
+    ensures says { (room : Room) → Says recorder.old.theory number terms.now room (image stated.now) → DerivesIf room result [] (image stated.now) }
 {
     let lemma = theorem_of(recorder, logic, number);
     let answer = instance_known(recorder, alloc, &[], terms, lemma)?;
-    named_known(recorder, alloc, stated, &answer)
+    named_same(recorder, alloc, stated, &answer)
 }
 
 /// The sides of a conclusion with the binary connective of this name.

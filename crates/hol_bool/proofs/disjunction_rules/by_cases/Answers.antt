@@ -1,15 +1,18 @@
-use Rattle.std.proofs.Common.{◌≡◌, ◌∙◌, List, ◌++◌, Ok, IfOk, sym, ap, subst}
+use Rattle.std.proofs.Common.{◌≡◌, ◌∙◌, List, ◌++◌, false, Ok, IfOk, sym, ap, subst}
 use Rattle.hol_model.specs.Terms.Nameless.{Nameless, image}
 use Rattle.hol_model.specs.Terms.NamedTerm.{NamedTerm}
 use Rattle.hol_model.specs.Logic.Derivable.{without}
 use Rattle.hol_model.specs.Logic.Logic as nameless
+use Rattle.hol_model.specs.Logic.NamedLogic.{disjunction}
+use Rattle.hol_model.specs.Derived.DerivedRules.{images}
 use Rattle.hol_equal.specs.Room.{FitsIf}
 use Rattle.hol_equal.specs.Sequents.{Shows, DerivesIf}
 use Rattle.hol_equal.specs.Formulas.{IsFormula}
-use Rattle.hol_bool.specs.Disjunctions.{LeavesRoomIf}
+use Rattle.hol_bool.specs.Disjunctions.{LeavesRoomIf, both_cases}
+use Rattle.hol_equal.proofs.CutLemmas.{shows-itself}
 use Rattle.hol_bool.proofs.ConjunctionAnswers.{mp_equation}
 use Rattle.hol_bool.proofs.ImplicationAnswers.{disch-fits}
-use Rattle.hol_bool.proofs.PreludeSteps.{still_formula}
+use Rattle.hol_bool.proofs.PreludeSteps.{still_formula, where-no-room}
 use Rattle.hol_bool.proofs.DisjunctionAnswers.{other-is, other-formula, disjunction-fits, other-fits, both-fits, first-case-fits, second-case-fits}
 use Rattle.hol_bool.proofs.Passing.{unchanged}
 use Rattle.hol_equal.proofs.StepLemmas.{passed_on}
@@ -55,6 +58,30 @@ with_case-requires-clause-consequent c =
     let rest_is = other-is c.in_ok-rest.rest c.args.sides.right.now r c.requires.right.typed formula.typed c.in_ok-rest.ensures in
     still_formula c.args.recorder.now c.disj_cases_in_room.new.recorder (Ok c.in_ok-cases.cases) c.in_ok-rest.rest c.in_ok-cases.ensures.continues
     (other-formula c.args.recorder.now c.args.logic.now c.requires.logic concluded.legal c.in_ok-rest.rest c.args.sides.right.now r rest_is c.requires.right formula)
+
+pub with_case-requires-clause-fits : goal.with_case-requires-clause-fits
+with_case-requires-clause-fits c =
+    let concluded = c.conclusion_of-r.ensures in
+    let theorem = c.args.theorem.now.theorem in
+    let p = c.args.sides.left.now in
+    let q = c.args.sides.right.now in
+    let r = c.conclusion_of-r.result.now in
+    let formula : IsFormula c.args.recorder.now.theory r = subst (λ (t : NamedTerm). IsFormula c.args.recorder.now.theory t) (sym concluded.value) concluded.formula in
+    let rest_is = other-is c.in_ok-rest.rest q r c.requires.right.typed formula.typed c.in_ok-rest.ensures in
+    let whole = subst (λ (t : NamedTerm). Shows theorem (images theorem) (image t)) c.requires.whole (shows-itself theorem) in
+    let cases : Shows c.in_ok-cases.cases.theorem (images theorem) (image (both_cases p q r)) =
+    c.in_ok-cases.ensures.derives (images theorem) false whole (where-no-room (image (disjunction p q))) (where-no-room (image (both_cases p q r))) in
+    cases.concludes ∙ (λ i. nameless.implication (nameless.implication (image p) (image (concluded.value i))) (image (sym rest_is i)))
+
+pub with_case-requires-2-clause-fits : goal.with_case-requires-2-clause-fits
+with_case-requires-2-clause-fits c =
+    let concluded = c.conclusion_of-r.ensures in
+    let q = c.args.sides.right.now in
+    let r = c.conclusion_of-r.result.now in
+    let formula : IsFormula c.args.recorder.now.theory r = subst (λ (t : NamedTerm). IsFormula c.args.recorder.now.theory t) (sym concluded.value) concluded.formula in
+    let rest_is = other-is c.in_ok-rest.rest q r c.requires.right.typed formula.typed c.in_ok-rest.ensures in
+    let met : image r ≡ image c.args.second.now.theorem.conclusion = ap image concluded.value ∙ c.requires.meet in
+    ap image (c.in_ok-other.ensures.names ∙ rest_is) ∙ ap (λ (u : Nameless). nameless.implication (nameless.implication (image q) u) (image r)) met
 
 pub returns-in_err-other-clause-derives : goal.returns-in_err-other-clause-derives
 returns-in_err-other-clause-derives c h i j s room theorem first second left_room right_room s_room =

@@ -53,3 +53,11 @@ returns-clause-outcome c =
 
 pub returns-clause-inferred : goal.returns-clause-inferred
 returns-clause-inferred c = infers_disj_cases c.requires.logic c.in-Some.ensures.legal c.in-Some.ensures.formula (returns-clause-outcome c)
+
+pub by_cases-requires-clause-meet : goal.by_cases-requires-clause-meet
+by_cases-requires-clause-meet c =
+    let r = c.args.first.now.theorem.conclusion in
+    let s = c.args.second.now.theorem.conclusion in
+    let meet : are_alpha_equivalent r s ≡ true =
+    (λ i. same_term (image (sym c.conclusion_of.ensures.value i)) (image (sym c.conclusion_of-2.ensures.value i))) ∙ sym c.aconv.ensures.value ∙ c.if-not-aconv.false in
+    (same_term-Decides (image r) (image s)).0 meet

@@ -1,4 +1,5 @@
-use Rattle.hol_model.specs.Terms.Nameless.{image}
+use Rattle.std.proofs.Common.{◌∙◌, sym, ap}
+use Rattle.hol_model.specs.Terms.Nameless.{Nameless, image}
 use Rattle.hol_model.specs.Logic.Derivable.{without}
 use Rattle.hol_model.specs.Logic.Logic as nameless
 use Rattle.hol_equal.proofs.StepLemmas.{passed_on}
@@ -12,4 +13,8 @@ returns-in_err-implication-clause-derives c h k r room whole case case_fits whol
 pub returns-clause-derives : goal.returns-clause-derives
 returns-clause-derives c h k r room whole case case_fits whole_fits =
     let p = image c.args.p.now in
-    c.mp_in_room.ensures.derives h (without p k) (nameless.implication p r) room whole (c.in_ok-implication.ensures.derives k r room case case_fits) whole_fits
+    c.mp_known.ensures.derives h (without p k) (nameless.implication p r) room whole (c.in_ok-implication.ensures.derives k r room case case_fits) whole_fits
+
+pub mp_known-requires-clause-fits : goal.mp_known-requires-clause-fits
+mp_known-requires-clause-fits c =
+    c.requires.fits ∙ ap (λ (u : Nameless). nameless.implication u (image c.args.consequent.now)) (ap image (sym c.in_ok-implication.ensures.names))

@@ -12,7 +12,7 @@ use Rattle.hol_equal.proofs.StepLemmas.{equation-fits, passed_on}
 use Rattle.hol_equal.proofs.CutLemmas.{right-names, given-derives}
 use Rattle.hol_bool.proofs.RoomLemmas.{equation-is, equation-past}
 use Rattle.hol_bool.proofs.ConjunctionAnswers.{mp_equation, mp-leads}
-use Rattle.hol_bool.proofs.PreludeSteps.{where-no-room}
+use Rattle.hol_bool.proofs.PreludeSteps.{leads-concludes, where-no-room}
 use Rattle.hol_bool.proofs.FormulaLemmas.{equation-formula, made-formula}
 use Rattle.hol_bool.proofs.Passing.{unchanged}
 use Rattle.hol_bool.proofs.implication_rules.undisch_in_room.Goals as goal
@@ -81,8 +81,8 @@ returns-clause-derives c h room shown fits =
     given-derives room c.eq_mp_known.result (image a ∷ h) (image b)
     (c.eq_mp_known.ensures.gives (image a ∷ []) h (nameless.implication (image a) (image b)) (image b) at_images shown)
 
-pub leading_theorem-requires-clause-leads : goal.leading_theorem-requires-clause-leads
-leading_theorem-requires-clause-leads c =
+pub instance_of_theorem-requires-clause-concludes : goal.instance_of_theorem-requires-clause-concludes
+instance_of_theorem-requires-clause-concludes c =
     let whole = c.args.premise.now.theorem.conclusion in
     let a = c.args.p.now in
     let b = c.args.q.now in
@@ -93,13 +93,11 @@ leading_theorem-requires-clause-leads c =
     let stated_is = equation-is c.in_ok-stated.stated whole b c.conclusion_of-whole.result.now b zero.formula.typed sides.right_formula.typed zero.value refl c.in_ok-stated.ensures in
     let terms_are : terms ≡ at_p_q a b = c.deref.ensures.value ∙ c.in_ok-terms.ensures.ok in
     let leads = mp-leads theory whole a b terms zero.formula sides.left_formula sides.right_formula terms_are (ap image sides.is) false (where-no-room (mp_equation (image a) (image b))) in
-    record {
-      premise = image a;
-      leads = subst (λ (u : NamedTerm). LeadsTo theory 26 terms false (image a) (image u)) (sym stated_is) leads;
-    }
+    leads-concludes theory 26 terms false (image a) (image c.in_ok-stated.stated)
+    (subst (λ (u : NamedTerm). LeadsTo theory 26 terms false (image a) (image u)) (sym stated_is) leads)
 
-pub leading_theorem-requires-clause-stated : goal.leading_theorem-requires-clause-stated
-leading_theorem-requires-clause-stated c =
+pub instance_of_theorem-requires-clause-stated : goal.instance_of_theorem-requires-clause-stated
+instance_of_theorem-requires-clause-stated c =
     let theory = c.args.recorder.now.theory in
     let whole = c.args.premise.now.theorem.conclusion in
     let b = c.args.q.now in
