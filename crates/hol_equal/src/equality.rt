@@ -1,5 +1,5 @@
 // Derived rules without connectives.
-ghost use Rattle.std.specs.Prelude.{◌≡◌, List, [], ◌∷◌, ◌++◌, IfOk, IfErr, IfSome, IsTrue, Some};
+ghost use Rattle.std.specs.Prelude.{◌≡◌, List, [], ◌∷◌, ◌++◌, IfOk, IfErr, IfSome, Some};
 ghost use Rattle.std.specs.List.{list_any};
 ghost use Rattle.std.specs.Option.{option_map, is_some};
 ghost use Rattle.hol_model.specs.Terms.NamedTerm.{combination, dest_abstraction};
@@ -109,7 +109,7 @@ pub fn sym(recorder: &mut Recorder, alloc: Global, premise: &Rec) -> Result<Rec,
 }
 
 /// The theorem with this conclusion, which differs from its own in the names of bound variables alone, in two
-/// steps. Walks the term; where a proof shows that the theory knows it, `named_known`.
+/// steps. Walks the term; where a proof shows that the theory knows it, and that the two fit, `named_same`.
 pub fn named(
     recorder: &mut Recorder,
     alloc: Global,
@@ -130,29 +130,8 @@ pub fn named(
 }
 
 /// The theorem with this conclusion, which differs from its own in the names of bound variables alone: itself where nothing
-/// is bound, else in two steps. Of a formula that the theory knows, which is not walked for it, and a theorem on the
-/// recorder's theory.
-pub fn named_known(
-    recorder: &mut Recorder,
-    alloc: Global,
-    term: &Term,
-    premise: &Rec,
-) -> Result<Rec, Fault>
-    requires premise { IsHeld recorder.old premise.now }
-    requires formula { IsFormula recorder.old.theory term.now }
-    ensures continues { Continues recorder.old recorder.new result }
-    ensures names { IfOk result (λ made. made.theorem.conclusion ≡ term.now) }
-    ensures derives { (h : List Nameless) → Shows premise.now.theorem h (image term.now)
-        → DerivesIf (nameless_within_limits (nameless_equation bool_type (image term.now) (image term.now))) result h (image term.now) }
-{
-    if is_exact(conclusion_of(recorder, premise), term) {
-        return kept(recorder, alloc, premise);
-    }
-    renamed(recorder, alloc, term, premise)
-}
-
-/// The theorem with this conclusion, as `named_known`, where a proof shows that its own differs in the names of bound
-/// variables alone: the two are not compared for it.
+/// is bound, else in two steps. Of a theorem on the recorder's theory, and a formula that the theory knows: it is not walked
+/// for it, and the two are not compared.
 #[tactic(auto, using(crate::proofs::Exact::exactness))]
 pub fn named_same(
     recorder: &mut Recorder,
@@ -171,15 +150,7 @@ pub fn named_same(
     if !term.has_binders() {
         return kept(recorder, alloc, premise);
     }
-    renamed_same(recorder, alloc, term, premise)
-}
-
-// Whether nothing is bound in the second term, and the first is the same.
-#[tactic(auto, using(crate::proofs::Exact::exactness))]
-fn is_exact(conclusion: &Term, term: &Term) -> bool
-    ensures { IsTrue result → conclusion.now ≡ term.now }
-{
-    !term.has_binders() && aconv(conclusion, term)
+    renamed(recorder, alloc, term, premise)
 }
 
 // The same theorem.
@@ -193,24 +164,8 @@ fn kept(recorder: &mut Recorder, alloc: Global, premise: &Rec) -> Result<Rec, Fa
     premise.copy(alloc)
 }
 
-// The theorem with these names, by REFL and EQ_MP, which compares the terms.
-fn renamed(recorder: &mut Recorder, alloc: Global, term: &Term, premise: &Rec) -> Result<Rec, Fault>
-    requires premise { IsMade recorder.old premise.now }
-    requires formula { IsFormula recorder.old.theory term.now }
-    ensures continues { Continues recorder.old recorder.new result }
-    ensures names { IfOk result (λ made. made.theorem.conclusion ≡ term.now) }
-    ensures derives { (h : List Nameless) → Shows premise.now.theorem h (image term.now)
-        → DerivesIf (nameless_within_limits (nameless_equation bool_type (image term.now) (image term.now))) result h (image term.now) }
-{
-    let _premise = recorder.thm(premise).concl();
-    let _type = term.ty();
-    recorder.theory_is_legal();
-    let reflexive = steps::refl_known(recorder, alloc, term)?;
-    steps::eq_mp(recorder, alloc, &reflexive, premise)
-}
-
-// The theorem with these names, by REFL and EQ_MP, where the terms are known to be the same but for their names.
-fn renamed_same(
+// The theorem with these names, by REFL and EQ_MP.
+fn renamed(
     recorder: &mut Recorder,
     alloc: Global,
     term: &Term,

@@ -8,7 +8,7 @@ pub mod steps;
 
 pub use conversion::{converted, converted_known};
 pub use equality::{
-    add_assum, add_assum_known, beta_conv, cut, cut_known, named, named_known, named_same,
+    add_assum, add_assum_known, beta_conv, cut, cut_known, named, named_same,
     prove_hyp, sym,
 };
 pub use lemma::{by_fitting_lemma, by_lemma, by_lemma_known, instance, instance_known};
