@@ -29,7 +29,7 @@ use std::alloc::Global;
 
 /// MP, of an implication and its left side, which are not compared for it.
 #[tactic(auto, using(hol_equal::proofs::StepLemmas::still_made, hol_equal::proofs::StepLemmas::now_made))]
-pub(crate) fn mp_known(
+pub fn mp_known(
     recorder: &mut Recorder,
     alloc: Global,
     logic: &Bool,
