@@ -12,29 +12,8 @@ use hol_model::Fault;
 use hol_terms::Term;
 use std::alloc::Global;
 
-/// For an abstraction `\x. b`, its variable and a term `a`, all of them known, the theorem `(\x. b) a = b[a/x]`, in two
-/// steps. Walks them; where a proof shows that the theory knows them, `converted_known`.
-pub fn converted(
-    recorder: &mut Recorder,
-    alloc: Global,
-    function: &Term,
-    binder: &Term,
-    argument: &Term,
-) -> Result<Rec, Fault>
-    ensures continues { Continues recorder.old recorder.new result }
-    ensures derives { (name : List ℕ) (ty codomain : HolType) (body : NamedTerm) → function.now ≡ abstraction name ty body
-        → binder.now ≡ variable name ty → type_of body ≡ Some codomain → type_of argument.now ≡ Some ty
-        → first_unknown recorder.old.theory (combination (abstraction name ty body) argument.now) ≡ None
-        → DerivesIf (conversion_fits name ty codomain body argument.now) result [] (conversion name ty codomain body argument.now) }
-{
-    let trivial = Term::mk_comb(alloc, function, binder)?;
-    let equation = steps::beta(recorder, alloc, &trivial)?;
-    let new = argument.copy(alloc)?;
-    let old = binder.copy(alloc)?;
-    steps::inst(recorder, alloc, &[(new, old)], &equation)
-}
-
-/// As `converted`, of an abstraction, its variable and a term that the theory knows, which are not walked for it.
+/// For an abstraction `\x. b`, its variable and a term `a`, all of them known to the theory and not walked for it, the theorem
+/// `(\x. b) a = b[a/x]`, in two steps.
 pub fn converted_known(
     recorder: &mut Recorder,
     alloc: Global,

@@ -165,12 +165,7 @@ fn kept(recorder: &mut Recorder, alloc: Global, premise: &Rec) -> Result<Rec, Fa
 }
 
 // The theorem with these names, by REFL and EQ_MP.
-fn renamed(
-    recorder: &mut Recorder,
-    alloc: Global,
-    term: &Term,
-    premise: &Rec,
-) -> Result<Rec, Fault>
+fn renamed(recorder: &mut Recorder, alloc: Global, term: &Term, premise: &Rec) -> Result<Rec, Fault>
     requires premise { IsMade recorder.old premise.now }
     requires formula { IsFormula recorder.old.theory term.now }
     requires same { image premise.now.theorem.conclusion ≡ image term.now }

@@ -69,7 +69,8 @@ pub fn instance_known(
 /// From the lemma's hypothesis at an instance, its conclusion there, in at most four steps. A rule of two premises
 /// takes a lemma whose conclusion is an equation, `p |- q = r`, and uses it on the second premise by EQ_MP: to take away two
 /// hypotheses one after another would take the second from the hypotheses of the first premise too.
-/// Walks the terms; where a proof shows that the theory knows them, `by_lemma_known`.
+/// Walks the terms, and compares the premise with the hypothesis; where a proof shows that the theory knows the terms, and that
+/// the premise fits, `by_fitting_lemma`.
 pub fn by_lemma(
     recorder: &mut Recorder,
     alloc: Global,
@@ -91,33 +92,8 @@ pub fn by_lemma(
     cut(recorder, alloc, premise, &stated)
 }
 
-/// From the lemma's hypothesis at an instance, its conclusion there, as `by_lemma`, by terms that the theory knows and
-/// which are not walked for it. Compares the premise with the hypothesis; where a proof shows that it fits,
-/// `by_fitting_lemma`.
-pub fn by_lemma_known(
-    recorder: &mut Recorder,
-    alloc: Global,
-    types: &[(Ty, Ty)],
-    terms: &[(Term, Term)],
-    lemma: &Rec,
-    premise: &Rec,
-) -> Result<Rec, Fault>
-    requires lemma { IsMade recorder.old lemma.now }
-    requires premise { IsMade recorder.old premise.now }
-    requires known { replacements_refusal recorder.old.theory terms.now ≡ None }
-    ensures continues { Continues recorder.old recorder.new result }
-    ensures derives { type_replacements_refusal recorder.old.theory types.now ≡ None → replacements_refusal recorder.old.theory terms.now ≡ None
-        → (h : List Nameless) (p c : Nameless) → Shows lemma.now.theorem (p ∷ []) c → Shows premise.now.theorem h (instance_of types.now terms.now p)
-        → DerivesIf (list_all nameless_within_limits (instantiate_all types.now c ∷ instantiate_all types.now p ∷ instance_of types.now terms.now c
-        ∷ instance_of types.now terms.now p ∷ nameless_equation bool_type (instance_of types.now terms.now p) (instance_of types.now terms.now c)
-        ∷ [])) result h (instance_of types.now terms.now c) }
-{
-    let stated = instance_known(recorder, alloc, types, terms, lemma)?;
-    cut(recorder, alloc, premise, &stated)
-}
-
-/// From the lemma's hypothesis at an instance, its conclusion there, as `by_lemma_known`, where the premise fits: it is not
-/// compared with the hypothesis.
+/// From the lemma's hypothesis at an instance, its conclusion there, as `by_lemma`, by terms that the theory knows, which are
+/// not walked for it, where the premise fits: it is not compared with the hypothesis.
 pub fn by_fitting_lemma(
     recorder: &mut Recorder,
     alloc: Global,

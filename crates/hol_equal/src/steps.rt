@@ -73,17 +73,6 @@ pub fn assume_known(recorder: &mut Recorder, alloc: Global, term: &Term) -> Resu
     recorder.assume_known(alloc, term)
 }
 
-// BETA, which walks the redex.
-pub(crate) fn beta(recorder: &mut Recorder, alloc: Global, term: &Term) -> Result<Rec, Fault>
-    ensures continues { Continues recorder.old recorder.new result }
-    ensures derives { (name : List ℕ) (domain codomain : HolType) (body : NamedTerm)
-        → term.now ≡ combination (abstraction name domain body) (variable name domain) → type_of body ≡ Some codomain
-        → IsKnown recorder.old.theory (image term.now) codomain → Derives result []
-        (nameless_equation codomain (app (lam domain (close name domain (image body))) (free name domain)) (image body)) }
-{
-    recorder.beta(alloc, term)
-}
-
 // BETA, of a redex that the theory knows, which is not walked for it.
 pub(crate) fn beta_known(recorder: &mut Recorder, alloc: Global, term: &Term) -> Result<Rec, Fault>
     requires { is_known recorder.old.theory term.now ≡ true }
