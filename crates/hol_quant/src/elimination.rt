@@ -7,14 +7,14 @@ ghost use Rattle.hol_model.specs.Logic.Logic.{implication};
 ghost use Rattle.hol_model.specs.Terms.NamedTerm.{NamedTerm, variable, combination, type_of};
 ghost use Rattle.hol_model.specs.Terms.NamedTerm as named;
 ghost use Rattle.hol_model.specs.Terms.Nameless.{image, same_term};
-ghost use Rattle.hol_model.specs.Logic.Derivable.{NotFreeInAny, without};
+ghost use Rattle.hol_model.specs.Logic.Derivable.{without};
 ghost use Rattle.hol_model.specs.Derived.DerivedRules.{AnswersStated, images, is_roomy, terms_of_theorem, choose_outcome};
 ghost use Rattle.hol_model.specs.Derived.InferenceRules.{rule_choose};
 ghost use Rattle.hol_journal.specs.Journal.{IsMade, theorem_in};
 ghost use Rattle.hol_prelude.specs.HasLogic.{HasLogic};
 ghost use Rattle.hol_equal.specs.Sequents.{DerivesIf, Continues};
 ghost use Rattle.hol_equal.specs.Inferred.{Infers};
-ghost use Rattle.hol_quant.specs.Witnesses.{IsAtVariable, existential, redex, witnessed, leave_room};
+ghost use Rattle.hol_quant.specs.Witnesses.{IsAtVariable, MayChoose, existential, redex, witnessed, leave_room};
 
 use crate::generalization::gen_in_room;
 use crate::instances::by_formula_lemma;
@@ -110,17 +110,14 @@ fn choose_in_room(
     second: &Rec,
 ) -> Result<Rec, Fault>
     requires logic { HasLogic recorder.old logic.now }
-    requires at { IsAtVariable recorder.old.theory function.now binder.now argument.now }
+    requires choice { MayChoose recorder.old.theory function.now binder.now argument.now first.now.theorem second.now.theorem }
     requires first { IsMade recorder.old first.now }
     requires second { IsMade recorder.old second.now }
     ensures continues { Continues recorder.old recorder.new result }
     ensures names { IfOk result (λ made. made.theorem.conclusion ≡ second.now.theorem.conclusion) }
-    ensures derives { (at : IsAtVariable recorder.old.theory function.now binder.now argument.now)
-        → image first.now.theorem.conclusion ≡ existential at.name at.ty at.body
-        → NotFreeInAny at.other at.ty (existential at.name at.ty at.body ∷ image second.now.theorem.conclusion
-        ∷ without (witnessed at.name at.ty at.body argument.now) (images second.now.theorem))
-        → DerivesIf (leave_room at.name at.ty at.body second.now.theorem.conclusion) result
-        (images first.now.theorem ++ without (witnessed at.name at.ty at.body argument.now) (images second.now.theorem))
+    ensures derives { (choice : MayChoose recorder.old.theory function.now binder.now argument.now first.now.theorem second.now.theorem)
+        → DerivesIf (leave_room choice.at.name choice.at.ty choice.at.body second.now.theorem.conclusion) result
+        (images first.now.theorem ++ without (witnessed choice.at.name choice.at.ty choice.at.body argument.now) (images second.now.theorem))
         (image second.now.theorem.conclusion) }
 {
     let formula = conclusion_of(recorder, second);
