@@ -20,7 +20,7 @@ use crate::generalization::gen_in_room;
 use crate::instances::by_formula_lemma;
 use crate::parts::quantified_parts;
 use hol_alpha::aconv;
-use hol_bool::{disch_in_room, mp_in_room};
+use hol_bool::{disch_in_room, mp_known};
 use hol_equal::{assume, conclusion_of, converted, cut, eq_mp};
 use hol_journal::{Rec, Recorder};
 use hol_model::Fault;
@@ -125,7 +125,7 @@ fn choose_in_room(
     let sufficient = implied_by_redex(recorder, alloc, logic, function, binder, argument, second)?;
     let always = gen_in_room(recorder, alloc, logic, argument, &sufficient)?;
     let cases = by_formula_lemma(recorder, alloc, lemma, function, argument, formula, first)?;
-    mp_in_room(recorder, alloc, logic, formula, &cases, &always)
+    mp_known(recorder, alloc, logic, formula, &cases, &always)
 }
 
 /// CHOOSE: from `?x. p` and `q`, `q` without the hypothesis `p[v/x]`, by the lemma `(?) P |- (!x. P x ==> q) ==> q`,
