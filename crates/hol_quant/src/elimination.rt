@@ -21,7 +21,7 @@ use crate::instances::by_formula_lemma;
 use crate::parts::quantified_parts;
 use hol_alpha::aconv;
 use hol_bool::{disch_in_room, mp_known};
-use hol_equal::{assume, conclusion_of, converted, cut, eq_mp};
+use hol_equal::{assume_known, conclusion_of, converted_known, cut, eq_mp_known};
 use hol_journal::{Rec, Recorder};
 use hol_model::Fault;
 use hol_prelude::{Bool, numbers, theorem_of};
@@ -60,14 +60,16 @@ fn from_redex(
     argument: &Term,
     applied: &Term,
 ) -> Result<Rec, Fault>
+    requires at { IsAtVariable recorder.old.theory function.now binder.now argument.now }
+    requires applied { applied.now ≡ combination function.now argument.now }
     ensures continues { Continues recorder.old recorder.new result }
     ensures derives { (at : IsAtVariable recorder.old.theory function.now binder.now argument.now)
         → applied.now ≡ combination function.now argument.now → DerivesIf (is_roomy (existential at.name at.ty at.body)) result
         (redex at.name at.ty at.body argument.now ∷ []) (witnessed at.name at.ty at.body argument.now) }
 {
-    let equation = converted(recorder, alloc, function, binder, argument)?;
-    let assumed = assume(recorder, alloc, applied)?;
-    eq_mp(recorder, alloc, &equation, &assumed)
+    let equation = converted_known(recorder, alloc, function, binder, argument)?;
+    let assumed = assume_known(recorder, alloc, applied)?;
+    eq_mp_known(recorder, alloc, &equation, &assumed)
 }
 
 // From `q`, `(\x. p) v ==> q` without the hypothesis `p[v/x]`.
