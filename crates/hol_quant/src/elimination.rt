@@ -131,7 +131,7 @@ fn choose_in_room(
 }
 
 /// CHOOSE: from `?x. p` and `q`, `q` without the hypothesis `p[v/x]`, by the lemma `(?) P |- (!x. P x ==> q) ==> q`,
-/// in at most 43 steps. Refused where the term is no variable, then where the first conclusion is no `?x. p`, then where the
+/// in at most 40 steps. Refused where the term is no variable, then where the first conclusion is no `?x. p`, then where the
 /// variable's type is not that of `x`, and then where it is free in `?x. p`, in `q` or in another hypothesis of `q`.
 #[tactic(auto, using(crate::proofs::InferredQuantifiers::infers_choose, hol_equal::proofs::StepLemmas::still_made, hol_equal::proofs::StepLemmas::now_made))]
 pub fn choose(
