@@ -12,12 +12,6 @@ use Rattle.hol_model.specs.Logic.Derivable.{nameless_equation}
 use Rattle.hol_model.specs.Kernel.Theorem.{Theorem}
 use Rattle.hol_equal.specs.Sequents.{Shows, instance_of}
 
--- a known predicate, and a known element of its domain
-pub record AreKnown (theory : Theory) (function element : NamedTerm) : Type 0 where
-  pub ty : HolType
-  pub function_known : IsKnown theory (image function) (predicate ty)
-  pub element_known : IsKnown theory (image element) ty
-
 -- a term of the lemma with the type for `A`
 abbrev pub at_type : HolType → Nameless → Nameless
 at_type ty term = instantiate_all ((ty, type_a) ∷ []) term
@@ -49,7 +43,17 @@ abbrev pub at_formula : HolType → NamedTerm → NamedTerm → Nameless → Nam
 at_formula ty function formula term =
     instance_of ((ty, type_a) ∷ []) ((function, variable (codes "P") (predicate ty)) ∷ (formula, variable (codes "q") bool_type) ∷ []) term
 
--- so are they there
+-- a lemma of one hypothesis, and a theorem of that hypothesis at a known predicate, on the type of a known element, and a formula
+pub record FormulaFits (theory : Theory) (function element formula : NamedTerm) (lemma premise : Theorem) : Type 0 where
+  pub ty : HolType
+  pub function_known : IsKnown theory (image function) (predicate ty)
+  pub element_known : IsKnown theory (image element) ty
+  pub hypothesis : Nameless
+  pub conclusion : Nameless
+  pub lemma_shows : Shows lemma (hypothesis ∷ []) conclusion
+  pub premise_is : image premise.conclusion ≡ at_formula ty function formula hypothesis
+
+-- the lemma's hypothesis and conclusion are within the limits there
 abbrev pub formula_lemma_fits : HolType → NamedTerm → NamedTerm → Nameless → Nameless → Bool
 formula_lemma_fits ty function formula p q =
     let left : Nameless = at_formula ty function formula p in

@@ -27,6 +27,11 @@ pub record IsWitnessed (theory : Theory) (formula function binder body witness :
   pub witness_known : IsKnown theory (image witness) parts.ty
   pub instance_is : instance ≡ fill (image witness) (close parts.name parts.ty (image body))
 
+-- and such a formula
+pub record IsInstance (theory : Theory) (function binder body witness : NamedTerm) (instance : Nameless) : Type 0 where
+  pub formula : NamedTerm
+  pub witnessed : IsWitnessed theory formula function binder body witness instance
+
 -- the terms of EXISTS that have to leave room
 abbrev pub witnessed_terms : NamedTerm → NamedTerm → Nameless → List Nameless
 witnessed_terms formula witness instance = image formula ∷ image witness ∷ instance ∷ []

@@ -7,7 +7,9 @@ use Rattle.hol_model.specs.Terms.Nameless.{Nameless, const, bound, app, image}
 use Rattle.hol_model.specs.Terms.Substitution.{close, fill}
 use Rattle.hol_model.specs.Logic.Theory.{Theory, IsKnown, IsKnownType}
 use Rattle.hol_model.specs.Logic.Logic.{exists_name, predicate, quantifier, implication, forall_term}
-use Rattle.hol_model.specs.Derived.DerivedRules.{is_roomy}
+use Rattle.hol_model.specs.Logic.Derivable.{NotFreeInAny, without}
+use Rattle.hol_model.specs.Kernel.Theorem.{Theorem}
+use Rattle.hol_model.specs.Derived.DerivedRules.{images, is_roomy}
 use Rattle.hol_equal.specs.Conversions.{closed}
 
 -- an abstraction of a formula, its variable and another variable of the type, all of them known
@@ -34,6 +36,13 @@ redex name ty body argument = app (closed name ty body) (image argument)
 -- p[v/x]
 abbrev pub witnessed : List ℕ → HolType → NamedTerm → NamedTerm → Nameless
 witnessed name ty body argument = fill (image argument) (close name ty (image body))
+
+-- a theorem of ?x. p, and one of q, where the variable v is free neither in ?x. p nor in q nor in a hypothesis of q but p[v/x]
+pub record MayChoose (theory : Theory) (function binder argument : NamedTerm) (first second : Theorem) : Type 0 where
+  pub at : IsAtVariable theory function binder argument
+  pub first_is : image first.conclusion ≡ existential at.name at.ty at.body
+  pub fresh : NotFreeInAny at.other at.ty
+      (existential at.name at.ty at.body ∷ image second.conclusion ∷ without (witnessed at.name at.ty at.body argument) (images second))
 
 -- !x. P x ==> q
 abbrev pub suffices : HolType → Nameless → Nameless → Nameless

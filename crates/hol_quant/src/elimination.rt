@@ -7,21 +7,21 @@ ghost use Rattle.hol_model.specs.Logic.Logic.{implication};
 ghost use Rattle.hol_model.specs.Terms.NamedTerm.{NamedTerm, variable, combination, type_of};
 ghost use Rattle.hol_model.specs.Terms.NamedTerm as named;
 ghost use Rattle.hol_model.specs.Terms.Nameless.{image, same_term};
-ghost use Rattle.hol_model.specs.Logic.Derivable.{NotFreeInAny, without};
+ghost use Rattle.hol_model.specs.Logic.Derivable.{without};
 ghost use Rattle.hol_model.specs.Derived.DerivedRules.{AnswersStated, images, is_roomy, terms_of_theorem, choose_outcome};
 ghost use Rattle.hol_model.specs.Derived.InferenceRules.{rule_choose};
 ghost use Rattle.hol_journal.specs.Journal.{IsMade, theorem_in};
 ghost use Rattle.hol_prelude.specs.HasLogic.{HasLogic};
 ghost use Rattle.hol_equal.specs.Sequents.{DerivesIf, Continues};
 ghost use Rattle.hol_equal.specs.Inferred.{Infers};
-ghost use Rattle.hol_quant.specs.Witnesses.{IsAtVariable, existential, redex, witnessed, leave_room};
+ghost use Rattle.hol_quant.specs.Witnesses.{IsAtVariable, MayChoose, existential, redex, witnessed, leave_room};
 
 use crate::generalization::gen_in_room;
 use crate::instances::by_formula_lemma;
 use crate::parts::quantified_parts;
 use hol_alpha::aconv;
-use hol_bool::{disch_in_room, mp_in_room};
-use hol_equal::{assume, conclusion_of, converted, cut, eq_mp};
+use hol_bool::{disch_in_room, mp_known};
+use hol_equal::{assume_known, conclusion_of, converted_known, cut, eq_mp_known};
 use hol_journal::{Rec, Recorder};
 use hol_model::Fault;
 use hol_prelude::{Bool, numbers, theorem_of};
@@ -60,14 +60,16 @@ fn from_redex(
     argument: &Term,
     applied: &Term,
 ) -> Result<Rec, Fault>
+    requires at { IsAtVariable recorder.old.theory function.now binder.now argument.now }
+    requires applied { applied.now ≡ combination function.now argument.now }
     ensures continues { Continues recorder.old recorder.new result }
     ensures derives { (at : IsAtVariable recorder.old.theory function.now binder.now argument.now)
         → applied.now ≡ combination function.now argument.now → DerivesIf (is_roomy (existential at.name at.ty at.body)) result
         (redex at.name at.ty at.body argument.now ∷ []) (witnessed at.name at.ty at.body argument.now) }
 {
-    let equation = converted(recorder, alloc, function, binder, argument)?;
-    let assumed = assume(recorder, alloc, applied)?;
-    eq_mp(recorder, alloc, &equation, &assumed)
+    let equation = converted_known(recorder, alloc, function, binder, argument)?;
+    let assumed = assume_known(recorder, alloc, applied)?;
+    eq_mp_known(recorder, alloc, &equation, &assumed)
 }
 
 // From `q`, `(\x. p) v ==> q` without the hypothesis `p[v/x]`.
@@ -110,17 +112,14 @@ fn choose_in_room(
     second: &Rec,
 ) -> Result<Rec, Fault>
     requires logic { HasLogic recorder.old logic.now }
-    requires at { IsAtVariable recorder.old.theory function.now binder.now argument.now }
+    requires choice { MayChoose recorder.old.theory function.now binder.now argument.now first.now.theorem second.now.theorem }
     requires first { IsMade recorder.old first.now }
     requires second { IsMade recorder.old second.now }
     ensures continues { Continues recorder.old recorder.new result }
     ensures names { IfOk result (λ made. made.theorem.conclusion ≡ second.now.theorem.conclusion) }
-    ensures derives { (at : IsAtVariable recorder.old.theory function.now binder.now argument.now)
-        → image first.now.theorem.conclusion ≡ existential at.name at.ty at.body
-        → NotFreeInAny at.other at.ty (existential at.name at.ty at.body ∷ image second.now.theorem.conclusion
-        ∷ without (witnessed at.name at.ty at.body argument.now) (images second.now.theorem))
-        → DerivesIf (leave_room at.name at.ty at.body second.now.theorem.conclusion) result
-        (images first.now.theorem ++ without (witnessed at.name at.ty at.body argument.now) (images second.now.theorem))
+    ensures derives { (choice : MayChoose recorder.old.theory function.now binder.now argument.now first.now.theorem second.now.theorem)
+        → DerivesIf (leave_room choice.at.name choice.at.ty choice.at.body second.now.theorem.conclusion) result
+        (images first.now.theorem ++ without (witnessed choice.at.name choice.at.ty choice.at.body argument.now) (images second.now.theorem))
         (image second.now.theorem.conclusion) }
 {
     let formula = conclusion_of(recorder, second);
@@ -128,11 +127,11 @@ fn choose_in_room(
     let sufficient = implied_by_redex(recorder, alloc, logic, function, binder, argument, second)?;
     let always = gen_in_room(recorder, alloc, logic, argument, &sufficient)?;
     let cases = by_formula_lemma(recorder, alloc, lemma, function, argument, formula, first)?;
-    mp_in_room(recorder, alloc, logic, formula, &cases, &always)
+    mp_known(recorder, alloc, logic, formula, &cases, &always)
 }
 
 /// CHOOSE: from `?x. p` and `q`, `q` without the hypothesis `p[v/x]`, by the lemma `(?) P |- (!x. P x ==> q) ==> q`,
-/// in at most 43 steps. Refused where the term is no variable, then where the first conclusion is no `?x. p`, then where the
+/// in at most 40 steps. Refused where the term is no variable, then where the first conclusion is no `?x. p`, then where the
 /// variable's type is not that of `x`, and then where it is free in `?x. p`, in `q` or in another hypothesis of `q`.
 #[tactic(auto, using(crate::proofs::InferredQuantifiers::infers_choose, hol_equal::proofs::StepLemmas::still_made, hol_equal::proofs::StepLemmas::now_made))]
 pub fn choose(

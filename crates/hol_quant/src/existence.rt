@@ -17,14 +17,14 @@ ghost use Rattle.hol_prelude.specs.HasLogic.{HasLogic};
 ghost use Rattle.hol_equal.specs.Room.{Room, FitsIf};
 ghost use Rattle.hol_equal.specs.Sequents.{Shows, DerivesIf, Continues};
 ghost use Rattle.hol_equal.specs.Inferred.{Infers};
-ghost use Rattle.hol_quant.specs.QuantifiedParts.{IsWitnessed, witnessed_terms};
+ghost use Rattle.hol_quant.specs.QuantifiedParts.{IsWitnessed, IsInstance, witnessed_terms};
 
 use crate::generalization::equal_to_truth;
 use crate::instances::by_predicate_lemma;
 use crate::parts::{Quantified, quantified_parts};
 use hol_alpha::aconv;
 use hol_bool::{formula_pair, pass_known};
-use hol_equal::{by_lemma, converted, named, trans};
+use hol_equal::{by_fitting_lemma, conclusion_of, converted_known, named_same, trans_known};
 use hol_journal::{Rec, Recorder};
 use hol_model::Fault;
 use hol_prelude::{Bool, numbers, theorem_of};
@@ -67,15 +67,17 @@ fn from_truth(
 ) -> Result<Rec, Fault>
     requires logic { HasLogic recorder.old logic.now }
     requires premise { IsMade recorder.old premise.now }
+    requires known { IsKnown recorder.old.theory (image formula.now) bool_type }
+    requires fits { image premise.now.theorem.conclusion ≡ nameless_equation bool_type (image formula.now) (image true_term) }
     ensures continues { Continues recorder.old recorder.new result }
-    ensures derives { (room : Room) (h : List Nameless) → IsKnown recorder.old.theory (image formula.now) bool_type → FitsIf room (image formula.now)
+    ensures derives { (room : Room) (h : List Nameless) → FitsIf room (image formula.now)
         → Shows premise.now.theorem h (nameless_equation bool_type (image formula.now) (image true_term))
         → DerivesIf room result h (image formula.now) }
 {
     let lemma = theorem_of(recorder, logic, numbers::EQT_ELIM);
     let of_formula = formula_pair(alloc, formula, "p")?;
     let terms = [of_formula];
-    by_lemma(recorder, alloc, &[], &terms, lemma, premise)
+    by_fitting_lemma(recorder, alloc, &[], &terms, lemma, premise)
 }
 
 // From `p[w/x]`, `(\x. p) w`.
@@ -90,6 +92,7 @@ fn expanded(
 ) -> Result<Rec, Fault>
     requires logic { HasLogic recorder.old logic.now }
     requires premise { IsMade recorder.old premise.now }
+    requires instance { IsInstance recorder.old.theory parts.predicate.now parts.binder.now parts.body.now witness.now (image premise.now.theorem.conclusion) }
     ensures continues { Continues recorder.old recorder.new result }
     ensures derives { (formula : NamedTerm)
         → IsWitnessed recorder.old.theory formula parts.entry.predicate.now parts.entry.binder.now parts.entry.body.now witness.now
@@ -98,9 +101,9 @@ fn expanded(
         (app (image parts.entry.predicate.now) (image witness.now)) }
 {
     let redex = Term::mk_comb(alloc, parts.predicate, witness)?;
-    let conversion = converted(recorder, alloc, parts.predicate, parts.binder, witness)?;
+    let conversion = converted_known(recorder, alloc, parts.predicate, parts.binder, witness)?;
     let equal = equal_to_truth(recorder, alloc, logic, premise)?;
-    let redex_equal = trans(recorder, alloc, &conversion, &equal)?;
+    let redex_equal = trans_known(recorder, alloc, &conversion, &equal)?;
     from_truth(recorder, alloc, logic, &redex, &redex_equal)
 }
 
@@ -127,7 +130,8 @@ fn exists_in_room(
     let lemma = theorem_of(recorder, logic, numbers::EXISTS);
     let redex = expanded(recorder, alloc, logic, parts, witness, premise)?;
     let answer = by_predicate_lemma(recorder, alloc, lemma, parts.predicate, witness, &redex)?;
-    named(recorder, alloc, formula, &answer)
+    let _answer = conclusion_of(recorder, &answer);
+    named_same(recorder, alloc, formula, &answer)
 }
 
 /// EXISTS: for `?x. p` and a witness `w`, from `p[w/x]`, `?x. p`, by the lemma `P x |- (?) P`, in fifteen steps. Refused

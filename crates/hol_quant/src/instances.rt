@@ -10,10 +10,10 @@ ghost use Rattle.hol_model.specs.Logic.Theory.{IsKnown, type_a};
 ghost use Rattle.hol_journal.specs.Journal.{IsMade};
 ghost use Rattle.hol_equal.specs.Formulas.{IsFormula};
 ghost use Rattle.hol_equal.specs.Sequents.{Shows, DerivesIf, Continues};
-ghost use Rattle.hol_quant.specs.PredicateLemmas.{AreKnown, PredicateFits, at_predicate, lemma_fits, at_formula, formula_lemma_fits};
+ghost use Rattle.hol_quant.specs.PredicateLemmas.{PredicateFits, at_predicate, lemma_fits, FormulaFits, at_formula, formula_lemma_fits};
 
 use hol_bool::formula_pair;
-use hol_equal::{by_fitting_lemma, by_lemma_known};
+use hol_equal::by_fitting_lemma;
 use hol_journal::{Rec, Recorder};
 use hol_model::Fault;
 use hol_terms::Term;
@@ -69,7 +69,7 @@ pub(crate) fn by_predicate_lemma(
 }
 
 // From the lemma's hypothesis at a predicate for `P`, on the type of an element, and a formula for `q`, its conclusion
-// there. The theory knows them, and they are not walked for it.
+// there. The theory knows them, which are not walked for it, and the premise fits, and is not compared with the hypothesis.
 pub(crate) fn by_formula_lemma(
     recorder: &mut Recorder,
     alloc: Global,
@@ -81,8 +81,8 @@ pub(crate) fn by_formula_lemma(
 ) -> Result<Rec, Fault>
     requires lemma { IsMade recorder.old lemma.now }
     requires premise { IsMade recorder.old premise.now }
-    requires known { AreKnown recorder.old.theory function.now element.now }
     requires formula { IsFormula recorder.old.theory formula.now }
+    requires fits { FormulaFits recorder.old.theory function.now element.now formula.now lemma.now.theorem premise.now.theorem }
     ensures continues { Continues recorder.old recorder.new result }
     ensures derives { (ty : HolType) → IsKnown recorder.old.theory (image function.now) (predicate ty)
         → IsKnown recorder.old.theory (image element.now) ty → IsFormula recorder.old.theory formula.now → (h : List Nameless) (p q : Nameless)
@@ -94,5 +94,5 @@ pub(crate) fn by_formula_lemma(
     let of_formula = formula_pair(alloc, formula, "q")?;
     let types = [of_type];
     let terms = [of_predicate, of_formula];
-    by_lemma_known(recorder, alloc, &types, &terms, lemma, premise)
+    by_fitting_lemma(recorder, alloc, &types, &terms, lemma, premise)
 }

@@ -9,6 +9,7 @@ use Rattle.hol_model.specs.Kernel.Theorem.{Theorem}
 use Rattle.hol_model.specs.Derived.DerivedRules.{is_free_in_some, terms_of_theorem, choose_outcome}
 use Rattle.hol_bool.proofs.LogicLemmas.{logical-type}
 use Rattle.hol_bool.proofs.RuleAnswers.{memory-stated}
+use Rattle.hol_quant.specs.Witnesses.{MayChoose}
 use Rattle.hol_quant.proofs.ChooseLemmas.{others-free}
 use Rattle.hol_quant.proofs.ChooseAnswers.{choose-parts, quantified-type, choose-mismatch, choose-start, body-typed, others, others-are, tested-are, choose-free, choose-fresh, choose-answers}
 use Rattle.hol_quant.proofs.InferredQuantifiers.{infers_choose}
@@ -176,8 +177,8 @@ returns-then-is_free_in_others-clause-inferred c =
     infers_choose c.requires.logic c.conclusion_of-formula.ensures.legal c.conclusion_of-formula.ensures.formula
     (returns-then-is_free_in_others-clause-outcome c)
 
-pub choose_in_room-requires-clause-at : goal.choose_in_room-requires-clause-at
-choose_in_room-requires-clause-at c =
+pub choose_in_room-requires-clause-choice : goal.choose_in_room-requires-clause-choice
+choose_in_room-requires-clause-choice c =
     let journal = c.args.recorder.now in
     let theory = journal.theory in
     let term = c.args.variable.now in
@@ -196,7 +197,19 @@ choose_in_room-requires-clause-at c =
     parts.abstraction in
     let type_is = quantified-type theory first.conclusion function binder body quantified c.ty.result.now c.ty.ensures in
     let chosen = choose-start theory term first second function binder body name ty dest quantified (type_is ∙ c.eq.ensures.same.0 c.if-not-eq.false) in
-    chosen.at
+    let at = chosen.at in
+    let typed = body-typed theory term first second function binder body name ty chosen in
+    let witness = c.in_ok-witness.witness in
+    let witness_is = c.in_ok-witness.ensures.ok at.name at.other at.ty typed at.binder_is at.argument_is in
+    let first_is = ap (is_free name ty) (sym c.conclusion_of-formula.ensures.value) ∙ sym c.is_free.ensures in
+    let second_is = ap (is_free name ty) (sym (c.concl.ensures.value ∙ ap (λ (t : Theorem). t.conclusion) c.thm-theorem.ensures)) ∙ sym c.is_free-2.ensures in
+    let hypotheses_are : c.hyps.result.now ≡ second.hypotheses = c.hyps.ensures.value ∙ ap (λ (t : Theorem). t.hypotheses) c.thm-theorem.ensures in
+    let others_are = others-are theory term first second function binder body name ty chosen witness witness_is in
+    let third_is = ap (is_free_in_some name ty) (sym others_are) ∙ sym (others-free name ty (image witness) second.hypotheses)
+    ∙ ap (list_any (λ h. not (same_term (image h) (image witness)) && is_free name ty h)) (sym hypotheses_are) ∙ sym c.is_free_in_others.ensures in
+    let fresh = tested-are theory term first second function binder body name ty chosen false false false (first_is ∙ c.if-is_free.false)
+    (second_is ∙ c.if-is_free-2.false) (third_is ∙ c.if-is_free_in_others.false) in
+    record { at = at; first_is = chosen.formula_image; fresh = choose-fresh theory term first second function binder body name ty chosen fresh }
 
 pub returns-clause-outcome : goal.returns-clause-outcome
 returns-clause-outcome c =
@@ -230,8 +243,10 @@ returns-clause-outcome c =
     ∙ ap (list_any (λ h. not (same_term (image h) (image witness)) && is_free name ty h)) (sym hypotheses_are) ∙ sym c.is_free_in_others.ensures in
     let fresh = tested-are theory term first second function binder body name ty chosen false false false (first_is ∙ c.if-is_free.false)
     (second_is ∙ c.if-is_free-2.false) (third_is ∙ c.if-is_free_in_others.false) in
+    let choice : MayChoose theory function binder term first second =
+    record { at = at; first_is = chosen.formula_image; fresh = choose-fresh theory term first second function binder body name ty chosen fresh } in
     choose-answers theory term first second function binder body name ty chosen c.choose_in_room.result fresh
-    (c.choose_in_room.ensures.derives at chosen.formula_image (choose-fresh theory term first second function binder body name ty chosen fresh)) c.choose_in_room.ensures.names
+    (c.choose_in_room.ensures.derives choice) c.choose_in_room.ensures.names
 
 pub returns-clause-inferred : goal.returns-clause-inferred
 returns-clause-inferred c = infers_choose c.requires.logic c.conclusion_of-formula.ensures.legal c.conclusion_of-formula.ensures.formula (returns-clause-outcome c)

@@ -31,6 +31,9 @@ returns-in_err-applied-clause-derives c at =
     past-room c.in_err-applied.field-0.0 (nameless_within_limits (app (image function) (image argument))) (room theory function binder argument at q)
     (applied-past c.in_err-applied.field-0.0 function argument bool_type (applied-formula theory function binder argument at).typed c.in_err-applied.ensures.outcome) (applied-within theory function binder argument at q))
 
+pub from_redex-requires-clause-applied : goal.from_redex-requires-clause-applied
+from_redex-requires-clause-applied c = (limits.applied c.args.function.now c.args.argument.now c.in_ok-applied.applied c.in_ok-applied.ensures.outcome).is
+
 pub returns-in_err-witness-clause-derives : goal.returns-in_err-witness-clause-derives
 returns-in_err-witness-clause-derives c at =
     rw (passed_on c.from_residual-in_err-witness.result c.in_err-witness.field-0.0 c.from_residual-in_err-witness.ensures.1) (

@@ -13,6 +13,7 @@ use Rattle.hol_equal.proofs.Sizes.{past-room}
 use Rattle.hol_equal.proofs.CutLemmas.{derives-where}
 use Rattle.hol_quant.specs.PredicateLemmas.{applied, over_predicate, lemma_fits}
 use Rattle.hol_quant.proofs.PreludeParts.{witness-shows}
+use Rattle.hol_quant.proofs.GenAnswers.{formula-shown}
 use Rattle.hol_quant.proofs.ExistsLemmas.{small, predicate_known, redex-at, formula-at, exists-lemma-within, exists-names-within}
 use Rattle.hol_equal.proofs.StepLemmas.{passed_on}
 use Rattle.hol_quant.proofs.existence.exists_in_room.Goals as goal
@@ -21,6 +22,9 @@ pub returns-in_err-redex-clause-derives : goal.returns-in_err-redex-clause-deriv
 returns-in_err-redex-clause-derives c at =
     rw (passed_on c.from_residual.result c.in_err-redex.field-0.0 c.from_residual.ensures.1) (
     c.in_err-redex.ensures.derives c.args.formula.now at)
+
+pub expanded-requires-clause-instance : goal.expanded-requires-clause-instance
+expanded-requires-clause-instance c = record { formula = c.args.formula.now; witnessed = c.requires.witnessed }
 
 pub by_predicate_lemma-requires-clause-lemma : goal.by_predicate_lemma-requires-clause-lemma
 by_predicate_lemma-requires-clause-lemma c =
@@ -71,6 +75,50 @@ returns-in_err-answer-clause-derives c at =
     (c.in_err-answer.ensures.derives at.parts.ty function_known witness_known (images premise) applied
     (over_predicate exists_name) shows premise_shows) (exists-lemma-within theory formula function binder body witness instance at))
 
+pub named_same-requires-clause-formula : goal.named_same-requires-clause-formula
+named_same-requires-clause-formula c =
+    let formula = c.args.formula.now in
+    let theory = c.args.recorder.now.theory in
+    let function = c.args.parts.predicate.now in
+    let binder = c.args.parts.binder.now in
+    let body = c.args.parts.body.now in
+    let witness = c.args.witness.now in
+    let premise = c.args.premise.now.theorem in
+    let instance = image premise.conclusion in
+    let at = c.requires.witnessed in
+    let shows = witness-shows c.theorem_of-lemma.result.now.theorem c.theorem_of-lemma.ensures.theorem in
+    let later : c.expanded.new.recorder.theory ≡ theory = c.in_ok-redex.ensures.continues.theory in
+    let function_known = subst (λ (th : Theory). IsKnown th (image function) (predicate at.parts.ty)) (sym later) (predicate_known theory formula function binder body witness instance at) in
+    let witness_known = subst (λ (th : Theory). IsKnown th (image witness) at.parts.ty) (sym later) at.witness_known in
+    let premise_shows = subst (λ (t : Nameless). Shows c.in_ok-redex.redex.theorem (images premise) t)
+    (sym (redex-at theory formula function binder body witness instance at)) (c.in_ok-redex.ensures.derives formula at) in
+    let answer : Shows c.in_ok-answer.answer.theorem (images premise) (image formula) =
+    subst (λ (t : Nameless). Shows c.in_ok-answer.answer.theorem (images premise) t) (formula-at theory formula function binder body witness instance at)
+    (c.in_ok-answer.ensures.derives at.parts.ty function_known witness_known (images premise) applied (over_predicate exists_name) shows premise_shows) in
+    formula-shown c.by_predicate_lemma.new.recorder.theory c.in_ok-answer.answer.theorem (images premise) formula answer c.conclusion_of-answer.ensures.formula
+
+pub named_same-requires-clause-same : goal.named_same-requires-clause-same
+named_same-requires-clause-same c =
+    let formula = c.args.formula.now in
+    let theory = c.args.recorder.now.theory in
+    let function = c.args.parts.predicate.now in
+    let binder = c.args.parts.binder.now in
+    let body = c.args.parts.body.now in
+    let witness = c.args.witness.now in
+    let premise = c.args.premise.now.theorem in
+    let instance = image premise.conclusion in
+    let at = c.requires.witnessed in
+    let shows = witness-shows c.theorem_of-lemma.result.now.theorem c.theorem_of-lemma.ensures.theorem in
+    let later : c.expanded.new.recorder.theory ≡ theory = c.in_ok-redex.ensures.continues.theory in
+    let function_known = subst (λ (th : Theory). IsKnown th (image function) (predicate at.parts.ty)) (sym later) (predicate_known theory formula function binder body witness instance at) in
+    let witness_known = subst (λ (th : Theory). IsKnown th (image witness) at.parts.ty) (sym later) at.witness_known in
+    let premise_shows = subst (λ (t : Nameless). Shows c.in_ok-redex.redex.theorem (images premise) t)
+    (sym (redex-at theory formula function binder body witness instance at)) (c.in_ok-redex.ensures.derives formula at) in
+    let answer : Shows c.in_ok-answer.answer.theorem (images premise) (image formula) =
+    subst (λ (t : Nameless). Shows c.in_ok-answer.answer.theorem (images premise) t) (formula-at theory formula function binder body witness instance at)
+    (c.in_ok-answer.ensures.derives at.parts.ty function_known witness_known (images premise) applied (over_predicate exists_name) shows premise_shows) in
+    answer.concludes
+
 pub returns-clause-derives : goal.returns-clause-derives
 returns-clause-derives c at =
     let formula = c.args.formula.now in
@@ -90,6 +138,6 @@ returns-clause-derives c at =
     (sym (redex-at theory formula function binder body witness instance at)) (c.in_ok-redex.ensures.derives formula at) in
     let answer = subst (λ (t : Nameless). Shows c.in_ok-answer.answer.theorem (images premise) t) (formula-at theory formula function binder body witness instance at)
     (c.in_ok-answer.ensures.derives at.parts.ty function_known witness_known (images premise) applied (over_predicate exists_name) shows premise_shows) in
-    derives-where (nameless_within_limits (nameless_equation bool_type (image formula) (image formula))) fits c.named.result (images premise)
+    derives-where (nameless_within_limits (nameless_equation bool_type (image formula) (image formula))) fits c.named_same.result (images premise)
     (image formula) (exists-names-within theory formula function binder body witness instance at)
-    (c.named.ensures.derives (images premise) answer)
+    (c.named_same.ensures.derives (images premise) answer)

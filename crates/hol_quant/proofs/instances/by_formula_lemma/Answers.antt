@@ -1,4 +1,4 @@
-use Rattle.std.proofs.Common.{rules, ◌≡◌, ◌∷◌, [], List, subst, sym, None}
+use Rattle.std.proofs.Common.{rules, ◌≡◌, ◌∙◌, ◌∷◌, [], List, subst, sym, None}
 use Rattle.std.proofs.lemmas.Result.{err_from_is_err_and}
 use Rattle.std.specs.Prelude.{codes}
 use Rattle.std.specs.List.{list_all}
@@ -42,13 +42,13 @@ returns-clause-derives c ty function_known element_known is_formula h p q shown 
     subst (λ (l : List (NamedTerm × NamedTerm)).
     DerivesIf (list_all nameless_within_limits
     (instantiate_all wanted_types q ∷ instantiate_all wanted_types p ∷ instance_of wanted_types l q ∷ instance_of wanted_types l p ∷
-    nameless_equation bool_type (instance_of wanted_types l p) (instance_of wanted_types l q) ∷ [])) c.by_lemma_known.result h
+    nameless_equation bool_type (instance_of wanted_types l p) (instance_of wanted_types l q) ∷ [])) c.by_fitting_lemma.result h
     (instance_of wanted_types l q)) terms_are
     (subst (λ (l : List (HolType × HolType)).
     DerivesIf (list_all nameless_within_limits
     (instantiate_all l q ∷ instantiate_all l p ∷ instance_of l terms q ∷ instance_of l terms p ∷ nameless_equation bool_type
-    (instance_of l terms p) (instance_of l terms q) ∷ [])) c.by_lemma_known.result h (instance_of l terms q)) types_are
-    (c.by_lemma_known.ensures.derives types_pass terms_pass h p q shown premise_there))
+    (instance_of l terms p) (instance_of l terms q) ∷ [])) c.by_fitting_lemma.result h (instance_of l terms q)) types_are
+    (c.by_fitting_lemma.ensures.derives types_pass terms_pass h p q shown premise_there))
 
 pub returns-in_err-of_type-clause-continues : goal.returns-in_err-of_type-clause-continues
 returns-in_err-of_type-clause-continues c = rw (err_from_is_err_and c.from_residual.result c.from_residual.ensures.1).1 (search rules)
@@ -59,12 +59,21 @@ returns-in_err-of_predicate-clause-continues c = rw (err_from_is_err_and c.from_
 pub returns-in_err-of_formula-clause-continues : goal.returns-in_err-of_formula-clause-continues
 returns-in_err-of_formula-clause-continues c = rw (err_from_is_err_and c.from_residual-in_err-of_formula.result c.from_residual-in_err-of_formula.ensures.1).1 (search rules)
 
-pub by_lemma_known-requires-clause-known : goal.by_lemma_known-requires-clause-known
-by_lemma_known-requires-clause-known c =
+pub by_fitting_lemma-requires-clause-types : goal.by_fitting_lemma-requires-clause-types
+by_fitting_lemma-requires-clause-types c =
+    let theory = c.args.recorder.now.theory in
+    let element = c.args.element.now in
+    let at = c.requires.fits in
+    let type_is : c.in_ok-of_type.of_type ≡ (at.ty, type_a) = c.in_ok-of_type.ensures.ok at.ty (image-type element at.ty at.element_known.typed) in
+    subst (λ (l : List (HolType × HolType)). type_replacements_refusal theory l ≡ None) (sym (λ i. type_is i ∷ []))
+    (type-passes theory at.ty (IsKnown-type theory (image element) at.ty at.element_known))
+
+pub by_fitting_lemma-requires-clause-known : goal.by_fitting_lemma-requires-clause-known
+by_fitting_lemma-requires-clause-known c =
     let theory = c.args.recorder.now.theory in
     let function = c.args.function.now in
     let formula = c.args.formula.now in
-    let at = c.requires.known in
+    let at = c.requires.fits in
     let function_typed = image-type function (predicate at.ty) at.function_known.typed in
     let predicate_is : c.in_ok-of_predicate.of_predicate ≡ (function, variable (codes "P") (predicate at.ty)) = c.in_ok-of_predicate.ensures.ok (predicate at.ty) function_typed in
     let formula_is : c.in_ok-of_formula.of_formula ≡ (formula, variable (codes "q") bool_type) = c.in_ok-of_formula.ensures.ok in
@@ -73,3 +82,23 @@ by_lemma_known-requires-clause-known c =
     let terms_are : terms ≡ wanted = λ i. predicate_is i ∷ formula_is i ∷ [] in
     subst (λ (l : List (NamedTerm × NamedTerm)). replacements_refusal theory l ≡ None) (sym terms_are)
     (two-pass theory function formula (codes "P") (codes "q") (predicate at.ty) bool_type function_typed c.requires.formula.typed at.function_known c.requires.formula.known)
+
+pub by_fitting_lemma-requires-clause-fits : goal.by_fitting_lemma-requires-clause-fits
+by_fitting_lemma-requires-clause-fits c =
+    let function = c.args.function.now in
+    let element = c.args.element.now in
+    let formula = c.args.formula.now in
+    let at = c.requires.fits in
+    let function_typed = image-type function (predicate at.ty) at.function_known.typed in
+    let type_is : c.in_ok-of_type.of_type ≡ (at.ty, type_a) = c.in_ok-of_type.ensures.ok at.ty (image-type element at.ty at.element_known.typed) in
+    let predicate_is : c.in_ok-of_predicate.of_predicate ≡ (function, variable (codes "P") (predicate at.ty)) = c.in_ok-of_predicate.ensures.ok (predicate at.ty) function_typed in
+    let formula_is : c.in_ok-of_formula.of_formula ≡ (formula, variable (codes "q") bool_type) = c.in_ok-of_formula.ensures.ok in
+    let terms : List (NamedTerm × NamedTerm) = c.in_ok-of_predicate.of_predicate ∷ c.in_ok-of_formula.of_formula ∷ [] in
+    let wanted : List (NamedTerm × NamedTerm) = (function, variable (codes "P") (predicate at.ty)) ∷ (formula, variable (codes "q") bool_type) ∷ [] in
+    let terms_are : terms ≡ wanted = λ i. predicate_is i ∷ formula_is i ∷ [] in
+    record {
+      hypothesis = at.hypothesis;
+      conclusion = at.conclusion;
+      lemma_shows = at.lemma_shows;
+      premise_is = at.premise_is ∙ sym (λ i. instance_of (type_is i ∷ []) (terms_are i) at.hypothesis);
+    }
