@@ -27,7 +27,7 @@ use hol_prelude::numbers::{CONJUNCT1, DISCH, MP};
 use hol_terms::Term;
 use std::alloc::Global;
 
-/// MP, of an implication and its left side, which are not compared for it.
+/// MP, with the room that it needs: from `p ==> q` and `p`, which are not compared for it, the `q` that is handed in.
 #[tactic(auto, using(hol_equal::proofs::StepLemmas::still_made, hol_equal::proofs::StepLemmas::now_made))]
 pub fn mp_known(
     recorder: &mut Recorder,
@@ -54,35 +54,6 @@ pub fn mp_known(
     let terms = for_p_q(alloc, antecedent, consequent)?;
     let equation = by_leading_theorem(recorder, alloc, logic, MP, &terms, &stated, second)?;
     steps::eq_mp_known(recorder, alloc, &equation, first)
-}
-
-/// MP, with the room that it needs: from `p ==> q` and `p`, the `q` that is handed in. Compares the first conclusion with
-/// that implication.
-pub fn mp_in_room(
-    recorder: &mut Recorder,
-    alloc: Global,
-    logic: &Bool,
-    consequent: &Term,
-    first: &Rec,
-    second: &Rec,
-) -> Result<Rec, Fault>
-    requires logic { HasLogic recorder.old logic.now }
-    requires consequent { IsFormula recorder.old.theory consequent.now }
-    requires first { IsMade recorder.old first.now }
-    requires second { IsMade recorder.old second.now }
-    ensures continues { Continues recorder.old recorder.new result }
-    ensures names { IfOk result (λ made. made.theorem.conclusion ≡ consequent.now) }
-    ensures derives { (h k : List Nameless) (p : Nameless) (room : Room) → Shows first.now.theorem h (nameless.implication p (image consequent.now))
-        → Shows second.now.theorem k p → FitsIf room (nameless_equation bool_type (nameless.implication p (image consequent.now))
-        (image consequent.now)) → DerivesIf room result (k ++ h) (image consequent.now) }
-{
-    let whole = conclusion_of(recorder, first);
-    let antecedent = conclusion_of(recorder, second);
-    let implication = connect(alloc, "==>", antecedent, consequent)?;
-    if !aconv(whole, &implication) {
-        return Err(Fault::NotAlpha);
-    }
-    mp_known(recorder, alloc, logic, consequent, first, second)
 }
 
 /// MP: from `p ==> q` and `p`, `q`, in at most six steps. Refused where the first conclusion is no implication, and then where

@@ -20,7 +20,7 @@ pub use disjunction_rules::{disj_cases, disj1, disj2};
 pub use formula_terms::{
     Sides, connected_sides, equivalence, falsity, for_p_q, formula_pair, negated_part,
 };
-pub use implication_rules::{disch, disch_in_room, mp, mp_in_room, mp_known, undisch};
+pub use implication_rules::{disch, disch_in_room, mp, mp_known, undisch};
 pub use middle_rules::excluded_middle;
 pub use negation_rules::{contr, contr_known, not_elim, not_intro};
 pub use prelude_rules::{pass_formula, pass_known};
