@@ -10,12 +10,20 @@ returns-then-is_variable_at t c = λ is.
     let w = written c.args.self.now in
     combination_at c.args.term.now c.in-Combination.function.now c.in-Combination.argument.now w c.in-Some-Combination.first c.in-Some-Combination.second c.args.number
     c.in-Combination.ensures.value (rw c.in-Some-Combination.field-0-is at c.in-Some-Combination.ensures) (c.is_term_at.ensures is)
-    (subst (λ (s : NamedTerm). IsTermWritten w w s c.in-Some-Combination.second) c.in-Variable-parts.ensures.value (c.is_variable_at-in-Variable-parts.ensures c.if-is_variable_at.true))
+    (subst (λ (s : NamedTerm). IsTermWritten w w s c.in-Some-Combination.second) c.in_default-Variable.ensures.value (c.is_variable_at-in_default-Variable.ensures c.if-is_variable_at.true))
+
+pub returns-then-is_constant_at : goal.returns-then-is_constant_at
+returns-then-is_constant_at t c = λ is.
+    let w = written c.args.self.now in
+    combination_at c.args.term.now c.in-Combination.function.now c.in-Combination.argument.now w c.in-Some-Combination.first c.in-Some-Combination.second c.args.number
+    c.in-Combination.ensures.value (rw c.in-Some-Combination.field-0-is at c.in-Some-Combination.ensures)
+    (subst (λ (s : NamedTerm). IsTermWritten w w s c.in-Some-Combination.first) c.in-Constant-default.ensures.value (c.is_constant_at-in-Constant-default.ensures c.if-is_constant_at.true))
+    (c.is_term_at-then-is_constant_at.ensures is)
 
 pub returns-then-is_term_at : goal.returns-then-is_term_at
 returns-then-is_term_at t c = λ is.
     combination_at c.args.term.now c.in-Combination.function.now c.in-Combination.argument.now (written c.args.self.now) c.in-Some-Combination.first c.in-Some-Combination.second c.args.number
-    c.in-Combination.ensures.value (rw c.in-Some-Combination.field-0-is at c.in-Some-Combination.ensures) (c.is_term_at-in_default-parts.ensures c.if-is_term_at.true)
+    c.in-Combination.ensures.value (rw c.in-Some-Combination.field-0-is at c.in-Some-Combination.ensures) (c.is_term_at-in_default-2.ensures c.if-is_term_at.true)
     (c.is_term_at-then-is_term_at.ensures is)
 
 pub returns-then-is_variable_at-2 : goal.returns-then-is_variable_at-2
