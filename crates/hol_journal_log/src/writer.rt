@@ -323,7 +323,8 @@ impl<'a> Writer<'a> {
         }
     }
 
-    // Whether a term is written under a number.
+    // Whether a term is written under a number. Of a function and its argument, a variable or a constant is looked at first, and
+    // the walk goes on with the other one alone.
     fn is_term_at(&self, connective: Option<u32>, number: u32, term: &Term) -> bool
         requires { IfSome connective (IsTypeWritten (written self.now) (written self.now) binary) }
         ensures { IsTrue result → IsTermWritten (written self.now) (written self.now) term.now number }
@@ -332,10 +333,23 @@ impl<'a> Writer<'a> {
             Parts::Variable(name, ty) => self.is_variable_at(number, name, ty),
             Parts::Constant(name, ty) => self.is_constant_at(connective, number, name, ty),
             Parts::Combination(function, argument) => match self.term_line(number) {
-                Some(TermLine::Combination(first, second)) => {
-                    self.is_term_at(connective, first, function)
-                        && self.is_term_at(connective, second, argument)
-                }
+                Some(TermLine::Combination(first, second)) => match (
+                    function.parts(),
+                    argument.parts(),
+                ) {
+                    (_, Parts::Variable(name, ty)) => {
+                        self.is_variable_at(second, name, ty)
+                            && self.is_term_at(connective, first, function)
+                    }
+                    (Parts::Constant(name, ty), _) => {
+                        self.is_constant_at(connective, first, name, ty)
+                            && self.is_term_at(connective, second, argument)
+                    }
+                    _ => {
+                        self.is_term_at(connective, first, function)
+                            && self.is_term_at(connective, second, argument)
+                    }
+                },
                 _ => false,
             },
             Parts::Abstraction(name, ty, body) => match self.term_line(number) {
