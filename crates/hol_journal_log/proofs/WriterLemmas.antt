@@ -22,12 +22,12 @@ use Rattle.hol_model.specs.Logs.LogLine.{LogLine}
 use Rattle.hol_journal_log.specs.LogWriting.{Written, same_line, is_among, place_of}
 use Rattle.hol_journal_log.specs.Writing.{IsTypeLineWritten, IsTermLineWritten, IsTypeWritten, IsTermWritten}
 use Rattle.hol_journal_log.specs.Writer.{line_of_type, line_of_term}
-use Rattle.hol_journal_log.specs.declared.writer.TypeLine.{TypeLine}
-use Rattle.hol_journal_log.specs.declared.writer.TypeLine.TheVariants as types
-use Rattle.hol_journal_log.specs.declared.writer.TermLine.{TermLine}
-use Rattle.hol_journal_log.specs.declared.writer.TermLine.TheVariants as terms
-use Rattle.hol_journal_log.specs.contracts.writer.TypeLinePartialEq.TheImpl as type_line
-use Rattle.hol_journal_log.specs.contracts.writer.TermLinePartialEq.TheImpl as term_line
+use Rattle.hol_journal_log.specs.declared.lines.TypeLine.{TypeLine}
+use Rattle.hol_journal_log.specs.declared.lines.TypeLine.TheVariants as types
+use Rattle.hol_journal_log.specs.declared.lines.TermLine.{TermLine}
+use Rattle.hol_journal_log.specs.declared.lines.TermLine.TheVariants as terms
+use Rattle.hol_journal_log.specs.contracts.lines.TypeLinePartialEq.TheImpl as type_line
+use Rattle.hol_journal_log.specs.contracts.lines.TermLinePartialEq.TheImpl as term_line
 use Rattle.hol_journal_log.proofs.WrittenLemmas.{IsNamed, place-put, function_written, variable_written, constant_written, combination_written, abstraction_written}
 
 -- two keys are equal where their lines are the same

@@ -4,10 +4,10 @@ use Rattle.hol_model.specs.Logs.LogLine.{LogLine}
 use Rattle.hol_model.specs.Logs.LogLine.LogLine.{type_variable_line, bool_line, function_type_line, declared_type_line, variable_line, constant_line, combination_line, abstraction_line}
 use Rattle.hol_logtext.specs.Lines.{line_of}
 use Rattle.hol_journal_log.specs.LogWriting.{Written}
-use Rattle.hol_journal_log.specs.declared.writer.TypeLine.{TypeLine}
-use Rattle.hol_journal_log.specs.declared.writer.TypeLine.TheVariants as types
-use Rattle.hol_journal_log.specs.declared.writer.TermLine.{TermLine}
-use Rattle.hol_journal_log.specs.declared.writer.TermLine.TheVariants as terms
+use Rattle.hol_journal_log.specs.declared.lines.TypeLine.{TypeLine}
+use Rattle.hol_journal_log.specs.declared.lines.TypeLine.TheVariants as types
+use Rattle.hol_journal_log.specs.declared.lines.TermLine.{TermLine}
+use Rattle.hol_journal_log.specs.declared.lines.TermLine.TheVariants as terms
 use Rattle.hol_journal_log.specs.declared.writer.Writer.{Writer}
 
 abbrev pub line_of_type : TypeLine → LogLine

@@ -4,6 +4,7 @@
 mod claim;
 mod connectives;
 mod fitting;
+mod lines;
 mod log;
 mod log_laws;
 mod mark;
