@@ -1,5 +1,5 @@
 -- From a denied formula, that it is false: what each step states.
-use Rattle.std.proofs.Common.{◌≡◌, List, [], ◌∷◌, ◌++◌, Bool, true, false, ◌||◌, refl, sym, ◌∙◌, ap, subst, inl, inr, Some, Result, Ok, Err, IfOk, if◌then◌else◌}
+use Rattle.std.proofs.Common.{◌≡◌, List, [], ◌∷◌, ◌++◌, Bool, true, false, refl, sym, ◌∙◌, ap, subst, inl, inr, Some, Result, Ok, Err, IfOk}
 use Rattle.hol_model.specs.declared.fault.Fault.{Fault}
 use Rattle.hol_model.specs.declared.fault.Fault.TheVariants.{NotBool}
 use Rattle.hol_model.specs.Terms.HolType.{bool_type}
@@ -12,17 +12,19 @@ use Rattle.hol_model.specs.Logic.Derivable.{IsMember, IsSameSet, without}
 use Rattle.hol_model.specs.Kernel.Theorem.{Theorem}
 use Rattle.hol_model.specs.Kernel.Outcome.{refused}
 use Rattle.hol_model.specs.Kernel.Rules.{first_unknown, is_formula, assume_outcome}
-use Rattle.hol_model.specs.Derived.DerivedRules.{States, AnswersStated, named, images, stated, is_among, not_elim_outcome, undisch_outcome, contr_outcome, prove_hyp_outcome}
+use Rattle.hol_model.specs.Derived.DerivedRules.{images, stated, not_elim_outcome, undisch_outcome, contr_outcome}
 use Rattle.hol_model.proofs.Tests.{same_term-Decides}
-use Rattle.hol_model.proofs.Terms.Membership.{of_append, IsMember-append_left, IsMember-append_right}
-use Rattle.hol_journal.specs.Journal.{Journal, Recorded, theorem_in}
+use Rattle.hol_model.proofs.Terms.Membership.{of_append, IsMember-append_right}
+use Rattle.hol_journal.specs.Journal.{Journal, Recorded}
 use Rattle.hol_journal.proofs.GrowthLemmas.{journals-grow}
 use Rattle.hol_journal.proofs.Showing.{refused-is, unless-is, ok_is}
-use Rattle.hol_equal.specs.Sequents.{Shows, Continues}
+use Rattle.hol_equal.specs.Sequents.{Shows, DerivesIf, Continues}
 use Rattle.hol_equal.specs.Formulas.{IsFormula}
 use Rattle.hol_prelude.specs.HasLogic.{HasLogic}
 use Rattle.hol_prelude.specs.declared.stored.Bool.{Bool as Stored}
 use Rattle.hol_equal.proofs.StepLemmas.{no_unknown, not_without, of_without, in_without}
+use Rattle.hol_equal.proofs.CutLemmas.{shows-set}
+use Rattle.hol_equal.proofs.LemmaLemmas.{without-itself}
 use Rattle.hol_bool.proofs.LogicLemmas.{logical-type, negated-part}
 use Rattle.hol_rewrite_rules.specs.Rules.{Concludes}
 
@@ -75,15 +77,6 @@ differs c t = go (same_term (app c t) t) refl
     go true is = absurd (app-differs c t ((same_term-Decides (app c t) t).0 is))
     go false is = refl
 
-or_right : (a b : Bool) → b ≡ true → (a || b) ≡ true
-or_right true b is = refl
-or_right false b is = is
-
-among : (x : Nameless) (xs : List Nameless) → IsMember x xs → is_among x xs ≡ true
-among x [] m = absurd m
-among x (y ∷ ys) (inl e) = rw ((same_term-Decides x y).1 e) refl
-among x (y ∷ ys) (inr m) = or_right (same_term x y) (is_among x ys) (among x ys m)
-
 -- the hypotheses on the way: the denial alone
 abbrev pub on_the_way : Nameless → Nameless → Nameless → List Nameless
 on_the_way f p d = without f (f ∷ []) ++ without p (p ∷ d ∷ [])
@@ -109,14 +102,11 @@ only-denial f p d x m = elim (of_append x (without f (f ∷ [])) (without p (p �
 denial-there : (f p d : Nameless) → same_term d p ≡ false → IsMember d (on_the_way f p d)
 denial-there f p d other = IsMember-append_right d (without f (f ∷ [])) (without p (p ∷ d ∷ [])) (in_without d p (p ∷ d ∷ []) (inr (inl refl)) other)
 
-same_kept : (f p d : Nameless) (h k : List Nameless) → IsSameSet (on_the_way f p d) k → IsSameSet (h ++ without d k) h
-same_kept f p d h k same = record {
-  to = λ x m. elim (of_append x h (without d k) m) [ inl a ↦ a | inr b ↦ absurd (itself-left x d (only-denial f p d x (same.back x (of_without x d k b))) (not_without x d k b)) ];
-  back = λ x m. IsMember-append_left x h (without d k) m;
+pub way-alone : (f p d : Nameless) → same_term d p ≡ false → IsSameSet (d ∷ []) (on_the_way f p d)
+way-alone f p d other = record {
+  to = λ x m. elim m [ inl e ↦ subst (λ (t : Nameless). IsMember t (on_the_way f p d)) (sym e) (denial-there f p d other) | inr none ↦ absurd none ];
+  back = λ x m. inl (only-denial f p d x m);
 }
-
-same-through : (xs ys zs : List Nameless) → IsSameSet xs ys → IsSameSet ys zs → IsSameSet xs zs
-same-through xs ys zs one two = record { to = λ x m. two.to x (one.to x m); back = λ x m. one.back x (two.back x m) }
 
 -- F under the formula and its denial
 pub falsity-shows : (falsity implies : Theorem) (p d f : Nameless) → IsSameSet (images falsity) (p ∷ images implies) → IsSameSet (images implies) (d ∷ [])
@@ -129,22 +119,21 @@ falsity-shows falsity implies p d f one two is = record {
   concludes = is;
 }
 
--- PROVE_HYP takes the denial away
-pub denial-proved : (result : Result Recorded Fault) (arguments : List Nameless) (premise equation_made : Theorem) (part : NamedTerm) (c : Nameless) → premise.conclusion ≡ negation part
-    → equation_made.conclusion ≡ equation part false_term → Shows equation_made (on_the_way (image false_term) (image part) (image premise.conclusion)) c
-    → AnswersStated (theorem_in result) arguments (prove_hyp_outcome premise equation_made) → IfOk result (λ made. Concludes premise (equation part false_term) made.theorem)
-denial-proved (Err fault) arguments premise equation_made part c is named_is shown answers = tt
-denial-proved (Ok made) arguments premise equation_made part c is named_is shown answers =
+-- so the equation has no hypothesis but the denial
+pub under-denial : (premise equation_made : Theorem) (part : NamedTerm) (c : Nameless) → premise.conclusion ≡ negation part
+    → Shows equation_made (on_the_way (image false_term) (image part) (image premise.conclusion)) c → Shows equation_made (image premise.conclusion ∷ []) c
+under-denial premise equation_made part c is shown =
     let d = image premise.conclusion in
     let p = image part in
-    let f = image false_term in
-    let k = images equation_made in
     let other : same_term d p ≡ false = ap (λ (t : NamedTerm). same_term (image t) p) is ∙ differs (const not_name unary) p in
-    let there : is_among d k ≡ true = among d k (shown.same_set.to d (denial-there f p d other)) in
-    let states : States (record { hypotheses = images premise ++ without d k; conclusion = named equation_made.conclusion }) made.theorem =
-    subst (λ (b : Bool). States (record { hypotheses = if b then images premise ++ without d k else k; conclusion = named equation_made.conclusion }) made.theorem) there answers in
-    record {
-      same_hypotheses = same-through (images made.theorem) (images premise ++ without d k) (images premise) states.hypotheses
-          (same_kept f p d (images premise) k shown.same_set);
-      conclusion = states.conclusion ∙ named_is;
-    }
+    shows-set equation_made (on_the_way (image false_term) p d) (d ∷ []) c (way-alone (image false_term) p d other) shown
+
+-- the cut takes the denial away
+pub denial-proved : (result : Result Recorded Fault) (fits : Bool) (premise equation_made : Theorem) (part : NamedTerm) (c : Nameless) → equation_made.conclusion ≡ equation part false_term
+    → IfOk result (λ made. made.theorem.conclusion ≡ equation_made.conclusion)
+    → DerivesIf fits result (images premise ++ without (image premise.conclusion) (image premise.conclusion ∷ [])) c
+    → IfOk result (λ made. Concludes premise (equation part false_term) made.theorem)
+denial-proved (Err fault) fits premise equation_made part c named_is names shown = tt
+denial-proved (Ok made) fits premise equation_made part c named_is names shown =
+    let same = subst (λ (h : List Nameless). IsSameSet h (images made.theorem)) (without-itself (images premise) (image premise.conclusion)) shown.same_set in
+    record { same_hypotheses = record { to = same.back; back = same.to }; conclusion = names ∙ named_is }

@@ -1,5 +1,5 @@
 -- Where the terms of a theorem are small, the steps to its rules have room.
-use Rattle.std.proofs.Common.{◌≡◌, List, [], ◌∷◌, ◌++◌, Bool, true, false, refl, sym, ◌∙◌, ap, subst, inl, inr, Some, Result, Ok, Err, IfErr, if◌then◌else◌, arith}
+use Rattle.std.proofs.Common.{◌≡◌, List, [], ◌∷◌, ◌++◌, Bool, true, false, refl, sym, ◌∙◌, ap, subst, inl, inr, Some, Result, Ok, Err, IfErr, arith}
 use Rattle.std.specs.List.{list_all}
 use Rattle.hol_model.specs.declared.fault.Fault.{Fault}
 use Rattle.hol_model.specs.Terms.HolType.{bool_type}
@@ -9,17 +9,16 @@ use Rattle.hol_model.specs.Terms.Measures.{nameless_within_limits}
 use Rattle.hol_model.specs.Logic.Logic.{not_name, unary}
 use Rattle.hol_model.specs.Logic.Theory.{equality_name, equality_type}
 use Rattle.hol_model.specs.Logic.NamedLogic.{true_term, false_term, negation, implication, dest_conjunction}
-use Rattle.hol_model.specs.Logic.Derivable.{IsSameSet, without, nameless_equation}
+use Rattle.hol_model.specs.Logic.Derivable.{IsSameSet, nameless_equation}
 use Rattle.hol_model.specs.Kernel.Theorem.{Theorem}
-use Rattle.hol_model.specs.Derived.DerivedRules.{Stated, AnswersStated, is_roomy, is_among, images, terms_of_theorem, stated}
+use Rattle.hol_model.specs.Derived.DerivedRules.{Stated, AnswersStated, is_roomy, images, terms_of_theorem, stated}
 use Rattle.hol_model.specs.Rewrites.SmallTerms.{is_small}
 use Rattle.hol_model.proofs.Tests.{both}
 use Rattle.hol_journal.specs.Journal.{Recorded, theorem_in}
-use Rattle.hol_equal.specs.Sequents.{Shows, IsPast, DerivesIf}
-use Rattle.hol_equal.proofs.StepLemmas.{of_without}
+use Rattle.hol_equal.specs.Sequents.{IsPast, DerivesIf}
+use Rattle.hol_equal.proofs.CutLemmas.{formulas-within}
 use Rattle.hol_equal.proofs.Sizes.{leaves_room, sized-within, past-room}
 use Rattle.hol_rewrite_rules.specs.Rules.{are_small}
-use Rattle.hol_rewrite_rules.proofs.Denying.{on_the_way, only-denial}
 use Rattle.hol_rewrite_rules.proofs.SmallParts.{AreRoomy, small_argument, small_sides, small_roomy, joined_roomy, implication_roomy, equivalence_roomy}
 use Rattle.hol_rewrite_rules.proofs.SmallParts.{roomy_all, roomy_append, roomy_more, roomy_small, small_member, small_all}
 
@@ -138,28 +137,10 @@ deduct_room premise part is all =
     roomy_within (nameless_equation bool_type (image part) (image false_term))
     (joined_roomy equality_name (equality_type bool_type) (image part) (image false_term) refl (part_small premise part is all) refl)
 
-way-roomy : (premise equation_made : Theorem) (part : NamedTerm) (c : Nameless) → Shows equation_made (on_the_way (image false_term) (image part) (image premise.conclusion)) c
-    → are_small premise ≡ true → AreRoomy (images equation_made)
-way-roomy premise equation_made part c shown all t m =
-    ap is_roomy (only-denial (image false_term) (image part) (image premise.conclusion) t (shown.same_set.back t m)) ∙ small_roomy (image premise.conclusion) (conclusion_small premise all)
-
-left-roomy : (premise : Theorem) (k : List Nameless) (test : Bool) → are_small premise ≡ true → AreRoomy k → AreRoomy (if test then images premise ++ without (image premise.conclusion) k else k)
-left-roomy premise k true all roomy =
-    roomy_append (images premise) (without (image premise.conclusion) k) (λ t m. roomy_small (terms_of_theorem premise) all t (inr m)) (λ t m. roomy t (of_without t (image premise.conclusion) k m))
-left-roomy premise k false all roomy = roomy
-
-pub prove_hyp_room : (premise equation_made : Theorem) (part : NamedTerm) (c : Nameless) → premise.conclusion ≡ negation part → type_of part ≡ Some bool_type
-    → equation_made.conclusion ≡ equation part false_term
-    → Shows equation_made (on_the_way (image false_term) (image part) (image premise.conclusion)) c → are_small premise ≡ true
-    → IsRoom (terms_of_theorem premise ++ terms_of_theorem equation_made) (image equation_made.conclusion)
-    (if is_among (image premise.conclusion) (images equation_made) then images premise ++ without (image premise.conclusion) (images equation_made) else images equation_made)
-prove_hyp_room premise equation_made part c is typed made_is shown all =
-    let hyps = way-roomy premise equation_made part c shown all in
-    let roomy : is_roomy (image equation_made.conclusion) ≡ true =
-    ap (λ (t : NamedTerm). is_roomy (image t)) made_is ∙ equivalence_roomy part false_term typed (part_small premise part is all) refl in
-    record {
-      arguments_fit = roomy_append (terms_of_theorem premise) (terms_of_theorem equation_made) (roomy_small (terms_of_theorem premise) all)
-          (roomy_more (image equation_made.conclusion) (images equation_made) roomy hyps);
-      conclusion_fits = roomy;
-      hypotheses_fit = left-roomy premise (images equation_made) (is_among (image premise.conclusion) (images equation_made)) all hyps;
-    }
+pub cut_room : (premise : Theorem) (part : NamedTerm) → premise.conclusion ≡ negation part → are_small premise ≡ true
+    → nameless_within_limits (nameless_equation bool_type (image premise.conclusion) (nameless_equation bool_type (image part) (image false_term))) ≡ true
+cut_room premise part is all =
+    let d = image premise.conclusion in
+    let c = nameless_equation bool_type (image part) (image false_term) in
+    let c_roomy : is_roomy c ≡ true = joined_roomy equality_name (equality_type bool_type) (image part) (image false_term) refl (part_small premise part is all) refl in
+    formulas-within d c (both (is_roomy d) (list_all is_roomy (c ∷ [])) (small_roomy d (conclusion_small premise all)) (both (is_roomy c) true c_roomy refl))

@@ -7,16 +7,17 @@ ghost use Rattle.hol_prelude.specs.HasLogic.{HasLogic};
 ghost use Rattle.hol_equal.specs.Sequents.{Continues, IsPast};
 ghost use Rattle.hol_rewrite_rules.specs.Rules.{Concludes, are_small};
 
-use hol_bool::{contr, not_elim, undisch};
+use hol_bool::{contr_known, not_elim, undisch};
 use hol_equal::steps::deduct_antisym;
-use hol_equal::{assume, conclusion_of, prove_hyp};
+use hol_equal::{assume_known, conclusion_of, cut_known};
 use hol_journal::{Rec, Recorder};
 use hol_model::Fault;
 use hol_prelude::Bool;
 use hol_terms::Term;
 use std::alloc::Global;
 
-// From `~p`, `p <=> F`, by `p, ~p |- F` and `F |- p`.
+// From `~p`, `p <=> F`, by `p, ~p |- F` and `F |- p`. The theory knows each formula, which is not walked for it, and
+// `~p |- p <=> F` has no hypothesis but the premise, which is not compared for it.
 pub(crate) fn denied(
     recorder: &mut Recorder,
     alloc: Global,
@@ -32,12 +33,12 @@ pub(crate) fn denied(
     ensures err { IfErr result (λ fault. IsPast fault (are_small premise.now.theorem)) }
 {
     let denial = conclusion_of(recorder, premise);
-    let assumed = assume(recorder, alloc, denial)?;
+    let assumed = assume_known(recorder, alloc, denial)?;
     let implication = not_elim(recorder, alloc, logic, &assumed)?;
     let falsity = undisch(recorder, alloc, logic, &implication)?;
     let false_term = conclusion_of(recorder, &falsity);
-    let assumed_falsity = assume(recorder, alloc, false_term)?;
-    let part_of_falsity = contr(recorder, alloc, logic, part, &assumed_falsity)?;
+    let assumed_falsity = assume_known(recorder, alloc, false_term)?;
+    let part_of_falsity = contr_known(recorder, alloc, logic, part, &assumed_falsity)?;
     let equation = deduct_antisym(recorder, alloc, &part_of_falsity, &falsity)?;
-    prove_hyp(recorder, alloc, premise, &equation)
+    cut_known(recorder, alloc, premise, &equation)
 }

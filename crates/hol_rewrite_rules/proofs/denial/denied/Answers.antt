@@ -1,4 +1,4 @@
-use Rattle.std.proofs.Common.{◌≡◌, [], ◌∷◌, ◌++◌, ◌∙◌, sym, ap, subst, refl, List, Ok, Err, if◌then◌else◌}
+use Rattle.std.proofs.Common.{◌≡◌, [], ◌∷◌, ◌++◌, ◌∙◌, sym, ap, subst, refl, List, Ok, Err}
 use Rattle.hol_model.specs.Terms.HolType.{bool_type}
 use Rattle.hol_model.specs.Terms.NamedTerm.{NamedTerm, equation}
 use Rattle.hol_model.specs.Logic.NamedLogic.{false_term, implication}
@@ -7,16 +7,24 @@ use Rattle.hol_model.specs.Logic.Theory.{Theory}
 use Rattle.hol_model.specs.Kernel.Theorem.{Theorem}
 use Rattle.hol_model.specs.Terms.Measures.{nameless_within_limits}
 use Rattle.hol_model.specs.Logic.Derivable.{IsSameSet, without, nameless_equation}
-use Rattle.hol_model.specs.Derived.DerivedRules.{images, terms_of_theorem, not_elim_outcome, undisch_outcome, contr_outcome, prove_hyp_outcome, is_among}
+use Rattle.hol_model.specs.Derived.DerivedRules.{images, terms_of_theorem, not_elim_outcome, undisch_outcome, contr_outcome}
 use Rattle.hol_equal.specs.Sequents.{Shows}
 use Rattle.hol_equal.specs.Formulas.{IsFormula}
 use Rattle.hol_bool.proofs.PreludeSteps.{still_logical}
 use Rattle.hol_equal.proofs.StepLemmas.{still_made, passed_on}
+use Rattle.hol_equal.proofs.CutLemmas.{shows-itself}
+use Rattle.hol_equal.proofs.LemmaLemmas.{premise-fits}
 use Rattle.hol_rewrite_rules.specs.Rules.{are_small}
 use Rattle.hol_rewrite_rules.proofs.Steps.{stated-ok}
-use Rattle.hol_rewrite_rules.proofs.RoomSteps.{stated-past, derives-past, same_lists, not_elim_room, undisch_room, contr_room, deduct_room, prove_hyp_room}
-use Rattle.hol_rewrite_rules.proofs.Denying.{continues-twice, assumed-is, denied-at, not_elim-is, undisch-is, contr-is, on_the_way, falsity-shows, denial-proved}
+use Rattle.hol_rewrite_rules.proofs.RoomSteps.{stated-past, derives-past, same_lists, not_elim_room, undisch_room, contr_room, deduct_room, cut_room}
+use Rattle.hol_rewrite_rules.proofs.Denying.{continues-twice, assumed-is, denied-at, not_elim-is, undisch-is, contr-is, on_the_way, under-denial, falsity-shows, denial-proved}
 use Rattle.hol_rewrite_rules.proofs.denial.denied.Goals as goal
+
+pub assume_known-requires : goal.assume_known-requires
+assume_known-requires c = subst (λ (t : NamedTerm). IsFormula c.args.recorder.now.theory t) (sym c.conclusion_of-denial.ensures.value) c.conclusion_of-denial.ensures.formula
+
+pub assume_known-requires-2 : goal.assume_known-requires-2
+assume_known-requires-2 c = subst (λ (t : NamedTerm). IsFormula c.undisch.new.recorder.theory t) (sym c.conclusion_of-false_term.ensures.value) c.conclusion_of-false_term.ensures.formula
 
 pub not_elim-requires-clause-logic : goal.not_elim-requires-clause-logic
 not_elim-requires-clause-logic c =
@@ -24,7 +32,7 @@ not_elim-requires-clause-logic c =
     let logic = c.args.logic.now in
     let part = c.args.part.now in
     let premise = c.args.premise.now.theorem in
-    let j1 = c.assume.new.recorder in
+    let j1 = c.assume_known.new.recorder in
     let c1 = c.in_ok-assumed.ensures.continues in
     let l1 = still_logical j0 j1 (Ok c.in_ok-assumed.assumed) logic c1 c.requires.logic in
     l1
@@ -51,7 +59,7 @@ undisch-requires-clause-logic c =
     let logic = c.args.logic.now in
     let part = c.args.part.now in
     let premise = c.args.premise.now.theorem in
-    let j1 = c.assume.new.recorder in
+    let j1 = c.assume_known.new.recorder in
     let c1 = c.in_ok-assumed.ensures.continues in
     let l1 = still_logical j0 j1 (Ok c.in_ok-assumed.assumed) logic c1 c.requires.logic in
     let j2 = c.not_elim.new.recorder in
@@ -80,13 +88,13 @@ returns-in_err-falsity-clause-err c =
     (stated-past (Err c.in_err-falsity.field-0.0) (terms_of_theorem implies) (image part ∷ images implies) false_term (undisch_outcome implies) (are_small premise) undisch_is
     (undisch_room premise implies part denied.is implies_states.conclusion implies_set) c.in_err-falsity.ensures.outcome)
 
-pub contr-requires-clause-logic : goal.contr-requires-clause-logic
-contr-requires-clause-logic c =
+pub contr_known-requires-clause-logic : goal.contr_known-requires-clause-logic
+contr_known-requires-clause-logic c =
     let j0 = c.args.recorder.now in
     let logic = c.args.logic.now in
     let part = c.args.part.now in
     let premise = c.args.premise.now.theorem in
-    let j1 = c.assume.new.recorder in
+    let j1 = c.assume_known.new.recorder in
     let c1 = c.in_ok-assumed.ensures.continues in
     let l1 = still_logical j0 j1 (Ok c.in_ok-assumed.assumed) logic c1 c.requires.logic in
     let j2 = c.not_elim.new.recorder in
@@ -95,10 +103,22 @@ contr-requires-clause-logic c =
     let j3 = c.undisch.new.recorder in
     let c3 = c.in_ok-falsity.ensures.continues in
     let l3 = still_logical j2 j3 (Ok c.in_ok-falsity.falsity) logic c3 l2 in
-    let j4 = c.assume-2.new.recorder in
+    let j4 = c.assume_known-2.new.recorder in
     let c4 = c.in_ok-assumed_falsity.ensures.continues in
     let l4 = still_logical j3 j4 (Ok c.in_ok-assumed_falsity.assumed_falsity) logic c4 l3 in
     l4
+
+pub contr_known-requires-clause-formula : goal.contr_known-requires-clause-formula
+contr_known-requires-clause-formula c =
+    let j0 = c.args.recorder.now in
+    let denied =
+    denied-at j0 c.args.logic.now c.requires.logic c.conclusion_of-denial.ensures.legal c.args.premise.now.theorem.conclusion c.args.part.now c.requires.part c.conclusion_of-denial.ensures.formula in
+    let c1 = c.in_ok-assumed.ensures.continues in
+    let c2 = c.in_ok-implication.ensures.continues in
+    let c3 = c.in_ok-falsity.ensures.continues in
+    let c4 = c.in_ok-assumed_falsity.ensures.continues in
+    let theory_is : c.assume_known-2.new.recorder.theory ≡ j0.theory = c4.theory ∙ c3.theory ∙ c2.theory ∙ c1.theory in
+    subst (λ (t : Theory). IsFormula t c.args.part.now) (sym theory_is) denied.formula
 
 pub returns-in_err-part_of_falsity-clause-err : goal.returns-in_err-part_of_falsity-clause-err
 returns-in_err-part_of_falsity-clause-err c =
@@ -106,7 +126,7 @@ returns-in_err-part_of_falsity-clause-err c =
     let logic = c.args.logic.now in
     let part = c.args.part.now in
     let premise = c.args.premise.now.theorem in
-    let j1 = c.assume.new.recorder in
+    let j1 = c.assume_known.new.recorder in
     let c1 = c.in_ok-assumed.ensures.continues in
     let l1 = still_logical j0 j1 (Ok c.in_ok-assumed.assumed) logic c1 c.requires.logic in
     let j2 = c.not_elim.new.recorder in
@@ -115,7 +135,7 @@ returns-in_err-part_of_falsity-clause-err c =
     let j3 = c.undisch.new.recorder in
     let c3 = c.in_ok-falsity.ensures.continues in
     let l3 = still_logical j2 j3 (Ok c.in_ok-falsity.falsity) logic c3 l2 in
-    let j4 = c.assume-2.new.recorder in
+    let j4 = c.assume_known-2.new.recorder in
     let c4 = c.in_ok-assumed_falsity.ensures.continues in
     let l4 = still_logical j3 j4 (Ok c.in_ok-assumed_falsity.assumed_falsity) logic c4 l3 in
     let denied = denied-at j0 logic c.requires.logic c.conclusion_of-denial.ensures.legal premise.conclusion part c.requires.part c.conclusion_of-denial.ensures.formula in
@@ -147,7 +167,7 @@ deduct_antisym-requires-clause-second c =
     let logic = c.args.logic.now in
     let part = c.args.part.now in
     let premise = c.args.premise.now.theorem in
-    let j1 = c.assume.new.recorder in
+    let j1 = c.assume_known.new.recorder in
     let c1 = c.in_ok-assumed.ensures.continues in
     let l1 = still_logical j0 j1 (Ok c.in_ok-assumed.assumed) logic c1 c.requires.logic in
     let j2 = c.not_elim.new.recorder in
@@ -156,10 +176,10 @@ deduct_antisym-requires-clause-second c =
     let j3 = c.undisch.new.recorder in
     let c3 = c.in_ok-falsity.ensures.continues in
     let l3 = still_logical j2 j3 (Ok c.in_ok-falsity.falsity) logic c3 l2 in
-    let j4 = c.assume-2.new.recorder in
+    let j4 = c.assume_known-2.new.recorder in
     let c4 = c.in_ok-assumed_falsity.ensures.continues in
     let l4 = still_logical j3 j4 (Ok c.in_ok-assumed_falsity.assumed_falsity) logic c4 l3 in
-    let j5 = c.contr.new.recorder in
+    let j5 = c.contr_known.new.recorder in
     let c5 = c.in_ok-part_of_falsity.ensures.continues in
     let m5 = still_made j4 j5 (Ok c.in_ok-part_of_falsity.part_of_falsity) c.in_ok-falsity.falsity c5 (still_made j3 j4 (Ok c.in_ok-assumed_falsity.assumed_falsity) c.in_ok-falsity.falsity c4 c3.held.made) in
     m5
@@ -170,7 +190,7 @@ returns-in_err-equation-clause-err c =
     let logic = c.args.logic.now in
     let part = c.args.part.now in
     let premise = c.args.premise.now.theorem in
-    let j1 = c.assume.new.recorder in
+    let j1 = c.assume_known.new.recorder in
     let c1 = c.in_ok-assumed.ensures.continues in
     let l1 = still_logical j0 j1 (Ok c.in_ok-assumed.assumed) logic c1 c.requires.logic in
     let j2 = c.not_elim.new.recorder in
@@ -179,7 +199,7 @@ returns-in_err-equation-clause-err c =
     let j3 = c.undisch.new.recorder in
     let c3 = c.in_ok-falsity.ensures.continues in
     let l3 = still_logical j2 j3 (Ok c.in_ok-falsity.falsity) logic c3 l2 in
-    let j4 = c.assume-2.new.recorder in
+    let j4 = c.assume_known-2.new.recorder in
     let c4 = c.in_ok-assumed_falsity.ensures.continues in
     let l4 = still_logical j3 j4 (Ok c.in_ok-assumed_falsity.assumed_falsity) logic c4 l3 in
     let denied = denied-at j0 logic c.requires.logic c.conclusion_of-denial.ensures.legal premise.conclusion part c.requires.part c.conclusion_of-denial.ensures.formula in
@@ -220,13 +240,13 @@ returns-in_err-equation-clause-err c =
     (derives-past (Err c.in_err-equation.field-0.0) (nameless_within_limits (nameless_equation bool_type p f)) (are_small premise) (on_the_way f p d)
     (nameless_equation bool_type p f) (deduct_room premise part denied.is) (c.in_err-equation.ensures.derives (f ∷ []) (p ∷ d ∷ []) p f part_shows falsity_shows))
 
-pub prove_hyp-requires-clause-first : goal.prove_hyp-requires-clause-first
-prove_hyp-requires-clause-first c =
+pub cut_known-requires-clause-first : goal.cut_known-requires-clause-first
+cut_known-requires-clause-first c =
     let j0 = c.args.recorder.now in
     let logic = c.args.logic.now in
     let part = c.args.part.now in
     let premise = c.args.premise.now.theorem in
-    let j1 = c.assume.new.recorder in
+    let j1 = c.assume_known.new.recorder in
     let c1 = c.in_ok-assumed.ensures.continues in
     let l1 = still_logical j0 j1 (Ok c.in_ok-assumed.assumed) logic c1 c.requires.logic in
     let j2 = c.not_elim.new.recorder in
@@ -235,10 +255,10 @@ prove_hyp-requires-clause-first c =
     let j3 = c.undisch.new.recorder in
     let c3 = c.in_ok-falsity.ensures.continues in
     let l3 = still_logical j2 j3 (Ok c.in_ok-falsity.falsity) logic c3 l2 in
-    let j4 = c.assume-2.new.recorder in
+    let j4 = c.assume_known-2.new.recorder in
     let c4 = c.in_ok-assumed_falsity.ensures.continues in
     let l4 = still_logical j3 j4 (Ok c.in_ok-assumed_falsity.assumed_falsity) logic c4 l3 in
-    let j5 = c.contr.new.recorder in
+    let j5 = c.contr_known.new.recorder in
     let c5 = c.in_ok-part_of_falsity.ensures.continues in
     let j6 = c.deduct_antisym.new.recorder in
     let c6 = c.in_ok-equation.ensures.continues in
@@ -255,7 +275,7 @@ returns-clause-continues c =
     let logic = c.args.logic.now in
     let part = c.args.part.now in
     let premise = c.args.premise.now.theorem in
-    let j1 = c.assume.new.recorder in
+    let j1 = c.assume_known.new.recorder in
     let c1 = c.in_ok-assumed.ensures.continues in
     let l1 = still_logical j0 j1 (Ok c.in_ok-assumed.assumed) logic c1 c.requires.logic in
     let j2 = c.not_elim.new.recorder in
@@ -264,10 +284,10 @@ returns-clause-continues c =
     let j3 = c.undisch.new.recorder in
     let c3 = c.in_ok-falsity.ensures.continues in
     let l3 = still_logical j2 j3 (Ok c.in_ok-falsity.falsity) logic c3 l2 in
-    let j4 = c.assume-2.new.recorder in
+    let j4 = c.assume_known-2.new.recorder in
     let c4 = c.in_ok-assumed_falsity.ensures.continues in
     let l4 = still_logical j3 j4 (Ok c.in_ok-assumed_falsity.assumed_falsity) logic c4 l3 in
-    let j5 = c.contr.new.recorder in
+    let j5 = c.contr_known.new.recorder in
     let c5 = c.in_ok-part_of_falsity.ensures.continues in
     let j6 = c.deduct_antisym.new.recorder in
     let c6 = c.in_ok-equation.ensures.continues in
@@ -276,7 +296,63 @@ returns-clause-continues c =
     let c_4 = continues-twice j0 j3 j4 (Ok c.in_ok-falsity.falsity) (Ok c.in_ok-assumed_falsity.assumed_falsity) c_3 c4 in
     let c_5 = continues-twice j0 j4 j5 (Ok c.in_ok-assumed_falsity.assumed_falsity) (Ok c.in_ok-part_of_falsity.part_of_falsity) c_4 c5 in
     let c_6 = continues-twice j0 j5 j6 (Ok c.in_ok-part_of_falsity.part_of_falsity) (Ok c.in_ok-equation.equation) c_5 c6 in
-    continues-twice j0 j6 c.prove_hyp.new.recorder (Ok c.in_ok-equation.equation) c.prove_hyp.result c_6 c.prove_hyp.ensures.continues
+    continues-twice j0 j6 c.cut_known.new.recorder (Ok c.in_ok-equation.equation) c.cut_known.result c_6 c.cut_known.ensures.continues
+
+pub cut_known-requires-clause-fits : goal.cut_known-requires-clause-fits
+cut_known-requires-clause-fits c =
+    let j0 = c.args.recorder.now in
+    let logic = c.args.logic.now in
+    let part = c.args.part.now in
+    let premise = c.args.premise.now.theorem in
+    let j1 = c.assume_known.new.recorder in
+    let c1 = c.in_ok-assumed.ensures.continues in
+    let l1 = still_logical j0 j1 (Ok c.in_ok-assumed.assumed) logic c1 c.requires.logic in
+    let j2 = c.not_elim.new.recorder in
+    let c2 = c.in_ok-implication.ensures.continues in
+    let l2 = still_logical j1 j2 (Ok c.in_ok-implication.implication) logic c2 l1 in
+    let j3 = c.undisch.new.recorder in
+    let c3 = c.in_ok-falsity.ensures.continues in
+    let l3 = still_logical j2 j3 (Ok c.in_ok-falsity.falsity) logic c3 l2 in
+    let j4 = c.assume_known-2.new.recorder in
+    let c4 = c.in_ok-assumed_falsity.ensures.continues in
+    let l4 = still_logical j3 j4 (Ok c.in_ok-assumed_falsity.assumed_falsity) logic c4 l3 in
+    let denied = denied-at j0 logic c.requires.logic c.conclusion_of-denial.ensures.legal premise.conclusion part c.requires.part c.conclusion_of-denial.ensures.formula in
+    let assumed = c.in_ok-assumed.assumed.theorem in
+    let assumed_is = assumed-is j0.theory c.conclusion_of-denial.result.now assumed c.in_ok-assumed.ensures.outcome in
+    let denial_is = ap (λ (t : Theorem). t.conclusion) assumed_is ∙ c.conclusion_of-denial.ensures.value ∙ denied.is in
+    let not_elim_is = not_elim-is assumed part denial_is in
+    let implies = c.in_ok-implication.implication.theorem in
+    let implies_states = stated-ok (Ok c.in_ok-implication.implication) (terms_of_theorem assumed) (images assumed) (implication part false_term) (not_elim_outcome assumed)
+    not_elim_is c.in_ok-implication.ensures.outcome in
+    let undisch_is = undisch-is implies part implies_states.conclusion in
+    let falsity = c.in_ok-falsity.falsity.theorem in
+    let falsity_states = stated-ok (Ok c.in_ok-falsity.falsity) (terms_of_theorem implies) (image part ∷ images implies) false_term (undisch_outcome implies) undisch_is
+    c.in_ok-falsity.ensures.outcome in
+    let of_falsity = c.in_ok-assumed_falsity.assumed_falsity.theorem in
+    let of_falsity_is = assumed-is j3.theory c.conclusion_of-false_term.result.now of_falsity c.in_ok-assumed_falsity.ensures.outcome in
+    let false_is : c.conclusion_of-false_term.result.now ≡ false_term = c.conclusion_of-false_term.ensures.value ∙ falsity_states.conclusion in
+    let theory_is : j4.theory ≡ j0.theory = c4.theory ∙ c3.theory ∙ c2.theory ∙ c1.theory in
+    let formula = subst (λ (t : Theory). IsFormula t part) (sym theory_is) denied.formula in
+    let contr_is = contr-is j4.theory of_falsity part (ap (λ (t : Theorem). t.conclusion) of_falsity_is ∙ false_is) formula in
+    let part_made = c.in_ok-part_of_falsity.part_of_falsity.theorem in
+    let part_states = stated-ok (Ok c.in_ok-part_of_falsity.part_of_falsity) (image part ∷ terms_of_theorem of_falsity) (images of_falsity) part (contr_outcome j4.theory part of_falsity)
+    contr_is c.in_ok-part_of_falsity.ensures.outcome in
+    let f = image false_term in
+    let p = image part in
+    let d = image premise.conclusion in
+    let of_falsity_hyps = ap images of_falsity_is ∙ ap (λ (t : NamedTerm). image t ∷ []) false_is in
+    let part_shows : Shows part_made (f ∷ []) p =
+    record {
+      same_set = subst (λ (h : List Nameless). IsSameSet h (images part_made)) of_falsity_hyps
+          (record { to = part_states.hypotheses.back; back = part_states.hypotheses.to });
+      concludes = ap image part_states.conclusion;
+    } in
+    let assumed_hyps = ap images assumed_is ∙ ap (λ (t : NamedTerm). image t ∷ []) c.conclusion_of-denial.ensures.value in
+    let implies_set = subst (λ (h : List Nameless). IsSameSet (images implies) h) assumed_hyps implies_states.hypotheses in
+    let falsity_shows = falsity-shows falsity implies p d f falsity_states.hypotheses implies_set (ap image falsity_states.conclusion) in
+    let equation_made = c.in_ok-equation.equation.theorem in
+    let equation_shows = c.in_ok-equation.ensures.derives (f ∷ []) (p ∷ d ∷ []) p f part_shows falsity_shows in
+    premise-fits premise equation_made d (nameless_equation bool_type p f) refl (under-denial premise equation_made part (nameless_equation bool_type p f) denied.is equation_shows)
 
 pub returns-clause-ok : goal.returns-clause-ok
 returns-clause-ok c =
@@ -284,7 +360,7 @@ returns-clause-ok c =
     let logic = c.args.logic.now in
     let part = c.args.part.now in
     let premise = c.args.premise.now.theorem in
-    let j1 = c.assume.new.recorder in
+    let j1 = c.assume_known.new.recorder in
     let c1 = c.in_ok-assumed.ensures.continues in
     let l1 = still_logical j0 j1 (Ok c.in_ok-assumed.assumed) logic c1 c.requires.logic in
     let j2 = c.not_elim.new.recorder in
@@ -293,7 +369,7 @@ returns-clause-ok c =
     let j3 = c.undisch.new.recorder in
     let c3 = c.in_ok-falsity.ensures.continues in
     let l3 = still_logical j2 j3 (Ok c.in_ok-falsity.falsity) logic c3 l2 in
-    let j4 = c.assume-2.new.recorder in
+    let j4 = c.assume_known-2.new.recorder in
     let c4 = c.in_ok-assumed_falsity.ensures.continues in
     let l4 = still_logical j3 j4 (Ok c.in_ok-assumed_falsity.assumed_falsity) logic c4 l3 in
     let denied = denied-at j0 logic c.requires.logic c.conclusion_of-denial.ensures.legal premise.conclusion part c.requires.part c.conclusion_of-denial.ensures.formula in
@@ -333,8 +409,10 @@ returns-clause-ok c =
     let equation_made = c.in_ok-equation.equation.theorem in
     let equation_shows = c.in_ok-equation.ensures.derives (f ∷ []) (p ∷ d ∷ []) p f part_shows falsity_shows in
     let equation_named = c.in_ok-equation.ensures.names ∙ (λ i. equation (part_states.conclusion i) (falsity_states.conclusion i)) in
-    denial-proved c.prove_hyp.result (terms_of_theorem premise ++ terms_of_theorem equation_made) premise equation_made part (nameless_equation bool_type p f) denied.is
-    equation_named equation_shows c.prove_hyp.ensures.outcome
+    let fits = nameless_within_limits (nameless_equation bool_type d (nameless_equation bool_type p f)) in
+    let equation_alone = under-denial premise equation_made part (nameless_equation bool_type p f) denied.is equation_shows in
+    denial-proved c.cut_known.result fits premise equation_made part (nameless_equation bool_type p f) equation_named c.cut_known.ensures.names
+    (c.cut_known.ensures.derives (images premise) (d ∷ []) d (nameless_equation bool_type p f) (shows-itself premise) equation_alone)
 
 pub returns-clause-err : goal.returns-clause-err
 returns-clause-err c =
@@ -342,7 +420,7 @@ returns-clause-err c =
     let logic = c.args.logic.now in
     let part = c.args.part.now in
     let premise = c.args.premise.now.theorem in
-    let j1 = c.assume.new.recorder in
+    let j1 = c.assume_known.new.recorder in
     let c1 = c.in_ok-assumed.ensures.continues in
     let l1 = still_logical j0 j1 (Ok c.in_ok-assumed.assumed) logic c1 c.requires.logic in
     let j2 = c.not_elim.new.recorder in
@@ -351,7 +429,7 @@ returns-clause-err c =
     let j3 = c.undisch.new.recorder in
     let c3 = c.in_ok-falsity.ensures.continues in
     let l3 = still_logical j2 j3 (Ok c.in_ok-falsity.falsity) logic c3 l2 in
-    let j4 = c.assume-2.new.recorder in
+    let j4 = c.assume_known-2.new.recorder in
     let c4 = c.in_ok-assumed_falsity.ensures.continues in
     let l4 = still_logical j3 j4 (Ok c.in_ok-assumed_falsity.assumed_falsity) logic c4 l3 in
     let denied = denied-at j0 logic c.requires.logic c.conclusion_of-denial.ensures.legal premise.conclusion part c.requires.part c.conclusion_of-denial.ensures.formula in
@@ -390,8 +468,7 @@ returns-clause-err c =
     let falsity_shows = falsity-shows falsity implies p d f falsity_states.hypotheses implies_set (ap image falsity_states.conclusion) in
     let equation_made = c.in_ok-equation.equation.theorem in
     let equation_shows = c.in_ok-equation.ensures.derives (f ∷ []) (p ∷ d ∷ []) p f part_shows falsity_shows in
-    let equation_named = c.in_ok-equation.ensures.names ∙ (λ i. equation (part_states.conclusion i) (falsity_states.conclusion i)) in
-    stated-past c.prove_hyp.result (terms_of_theorem premise ++ terms_of_theorem equation_made)
-    (if is_among d (images equation_made) then images premise ++ without d (images equation_made) else images equation_made) equation_made.conclusion
-    (prove_hyp_outcome premise equation_made) (are_small premise) refl
-    (prove_hyp_room premise equation_made part (nameless_equation bool_type p f) denied.is denied.formula.typed equation_named equation_shows) c.prove_hyp.ensures.outcome
+    let fits = nameless_within_limits (nameless_equation bool_type d (nameless_equation bool_type p f)) in
+    let equation_alone = under-denial premise equation_made part (nameless_equation bool_type p f) denied.is equation_shows in
+    derives-past c.cut_known.result fits (are_small premise) (images premise ++ without d (d ∷ [])) (nameless_equation bool_type p f) (cut_room premise part denied.is)
+    (c.cut_known.ensures.derives (images premise) (d ∷ []) d (nameless_equation bool_type p f) (shows-itself premise) equation_alone)
