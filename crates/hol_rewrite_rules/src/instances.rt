@@ -1,18 +1,25 @@
 // The body of a universal theorem, for a fresh variable.
-ghost use Rattle.std.specs.Prelude.{◌≡◌, ◌∷◌, ◌++◌, Some, true, IfOk, IfErr, OnOk, IfSome};
+ghost use Rattle.std.specs.Prelude.{◌≡◌, List, [], ◌∷◌, ◌++◌, Some, true, IfOk, IfErr, OnOk, IfSome};
 ghost use Rattle.std.specs.Option.{is_some};
 ghost use Rattle.hol_model.specs.declared.fault.Fault.TheVariants.{Memory};
 ghost use Rattle.hol_model.specs.Logic.Logic.{forall_name};
-ghost use Rattle.hol_model.specs.Terms.NamedTerm.{combination, dest_abstraction};
+ghost use Rattle.hol_model.specs.Terms.HolType.{HolType, bool_type};
+ghost use Rattle.hol_model.specs.Terms.NamedTerm.{combination, equation, dest_abstraction};
+ghost use Rattle.hol_model.specs.Terms.Nameless.{Nameless, image};
+ghost use Rattle.hol_model.specs.Terms.Measures.{nameless_within_limits};
+ghost use Rattle.hol_model.specs.Logic.Theory.{IsKnown};
+ghost use Rattle.hol_model.specs.Logic.KnownTerm.{is_known};
+ghost use Rattle.hol_model.specs.Logic.Derivable.{nameless_equation};
 ghost use Rattle.hol_model.specs.Logic.NamedLogic.{Abstracted, is_constant_named, dest_forall};
 ghost use Rattle.hol_journal.specs.Journal.{IsMade};
 ghost use Rattle.hol_prelude.specs.HasLogic.{HasLogic};
-ghost use Rattle.hol_equal.specs.Sequents.{Continues, IsPast};
+ghost use Rattle.hol_equal.specs.Formulas.{IsFormula};
+ghost use Rattle.hol_equal.specs.Sequents.{Shows, Derives, DerivesIf, Continues, IsPast};
 ghost use Rattle.hol_rewrite_rules.specs.Rules.{IsFreshInstance, are_small};
 
 use crate::renaming::with_variable_renamed;
 use hol_alpha::aconv;
-use hol_equal::{conclusion_of, named};
+use hol_equal::{conclusion_of, eq_mp_known};
 use hol_journal::{Rec, Recorder};
 use hol_model::Fault;
 use hol_prelude::Bool;
@@ -81,6 +88,39 @@ fn with_others(alloc: Global, first: &Term, others: &[Term]) -> Result<Vec<Term>
     Ok(all)
 }
 
+// REFL, of a term that the theory knows, which is not walked for it.
+fn refl_known(recorder: &mut Recorder, alloc: Global, term: &Term) -> Result<Rec, Fault>
+    requires { is_known recorder.old.theory term.now ≡ true }
+    ensures continues { Continues recorder.old recorder.new result }
+    ensures names { IfOk result (λ made. made.theorem.conclusion ≡ equation term.now term.now) }
+    ensures derives { (ty : HolType) → IsKnown recorder.old.theory (image term.now) ty → Derives result [] (nameless_equation ty (image term.now) (image term.now)) }
+{
+    recorder.refl_known(alloc, term)
+}
+
+// The theorem with this conclusion, of the same image as its own, by REFL and EQ_MP, also where nothing is bound. The theory
+// knows the formula, which is not walked for it, and the two are not compared.
+fn with_names(
+    recorder: &mut Recorder,
+    alloc: Global,
+    term: &Term,
+    premise: &Rec,
+) -> Result<Rec, Fault>
+    requires premise { IsMade recorder.old premise.now }
+    requires formula { IsFormula recorder.old.theory term.now }
+    requires same { image premise.now.theorem.conclusion ≡ image term.now }
+    ensures continues { Continues recorder.old recorder.new result }
+    ensures names { IfOk result (λ made. made.theorem.conclusion ≡ term.now) }
+    ensures derives { (h : List Nameless) → Shows premise.now.theorem h (image term.now)
+        → DerivesIf (nameless_within_limits (nameless_equation bool_type (image term.now) (image term.now))) result h (image term.now) }
+{
+    let _premise = recorder.thm(premise).concl();
+    let _type = term.ty();
+    recorder.theory_is_legal();
+    let reflexive = refl_known(recorder, alloc, term)?;
+    eq_mp_known(recorder, alloc, &reflexive, premise)
+}
+
 // From `!x. p`, `p`, with primes at `x` where it is free in the conclusion or in the hypotheses; the other bound names stay,
 // but where a binder captures the primed one.
 pub(crate) fn at_fresh_variable(
@@ -108,7 +148,7 @@ pub(crate) fn at_fresh_variable(
     let instance = spec(recorder, alloc, logic, &fresh, premise)?;
     let stated = with_variable_renamed(alloc, parts.binder, &fresh, parts.body)?;
     if aconv(&stated, conclusion_of(recorder, &instance)) {
-        return named(recorder, alloc, &stated, &instance);
+        return with_names(recorder, alloc, &stated, &instance);
     }
     Ok(instance)
 }

@@ -9,7 +9,9 @@ use Rattle.hol_rewrite_rules.proofs.Fresh.{started, instance-past, instance-stat
 use Rattle.hol_rewrite_rules.specs.Rules.{are_small}
 use Rattle.hol_rewrite_rules.proofs.RoomSteps.{derives-past}
 use Rattle.hol_equal.proofs.StepLemmas.{passed_on}
+use Rattle.hol_equal.specs.Sequents.{Shows}
 use Rattle.hol_bool.proofs.Passing.{unchanged}
+use Rattle.hol_quant.proofs.GenAnswers.{formula-shown}
 use Rattle.hol_rewrite_rules.proofs.instances.at_fresh_variable.Goals as goal
 
 pub returns-in_err-avoid-clause-continues : goal.returns-in_err-avoid-clause-continues
@@ -61,6 +63,17 @@ with_variable_renamed-requires-clause-new c =
     (c.deref.ensures.value ∙ c.in_ok-avoid.ensures.ok) c.in_ok-fresh.ensures.outcome.1 in
     ap is_variable at.term_is
 
+pub with_names-requires-clause-same : goal.with_names-requires-clause-same
+with_names-requires-clause-same c = sym (c.aconv.ensures.same.0 c.if-aconv.true ∙ ap image c.conclusion_of.ensures.value)
+
+pub with_names-requires-clause-formula : goal.with_names-requires-clause-formula
+with_names-requires-clause-formula c =
+    let made = c.in_ok-stated.stated in
+    let instance = c.in_ok-instance.instance.theorem in
+    let same = c.aconv.ensures.same.0 c.if-aconv.true ∙ ap image c.conclusion_of.ensures.value in
+    let shown : Shows instance (images instance) (image made) = record { same_set = record { to = λ x m. m; back = λ x m. m }; concludes = sym same } in
+    formula-shown c.spec.new.recorder.theory instance (images instance) made shown c.conclusion_of.ensures.formula
+
 pub returns-then-aconv-clause-ok : goal.returns-then-aconv-clause-ok
 returns-then-aconv-clause-ok c =
     let theory = c.args.recorder.now.theory in
@@ -79,8 +92,8 @@ returns-then-aconv-clause-ok c =
     let made_is = is-renamed theory hypotheses premise binder body term at made c.in_ok-stated.ensures.ok in
     let same = c.aconv.ensures.same.0 c.if-aconv.true ∙ ap image c.conclusion_of.ensures.value in
     let fits = nameless_within_limits (nameless_equation bool_type (image made) (image made)) in
-    let derives = c.named.ensures.derives (images premise) (shows-renamed theory hypotheses premise binder body term at instance made states same) in
-    named-instance theory hypotheses premise binder body term at c.named.result fits instance made states made_is same c.named.ensures.names derives
+    let derives = c.with_names.ensures.derives (images premise) (shows-renamed theory hypotheses premise binder body term at instance made states same) in
+    named-instance theory hypotheses premise binder body term at c.with_names.result fits instance made states made_is same c.with_names.ensures.names derives
 
 pub returns-then-aconv-clause-err : goal.returns-then-aconv-clause-err
 returns-then-aconv-clause-err c =
@@ -99,8 +112,8 @@ returns-then-aconv-clause-err c =
     let made = c.in_ok-stated.stated in
     let same = c.aconv.ensures.same.0 c.if-aconv.true ∙ ap image c.conclusion_of.ensures.value in
     let fits = nameless_within_limits (nameless_equation bool_type (image made) (image made)) in
-    let derives = c.named.ensures.derives (images premise) (shows-renamed theory hypotheses premise binder body term at instance made states same) in
-    derives-past c.named.result fits (are_small premise) (images premise) (image made) (renamed-room theory hypotheses premise binder body term at instance made states same) derives
+    let derives = c.with_names.ensures.derives (images premise) (shows-renamed theory hypotheses premise binder body term at instance made states same) in
+    derives-past c.with_names.result fits (are_small premise) (images premise) (image made) (renamed-room theory hypotheses premise binder body term at instance made states same) derives
 
 pub returns-clause-ok : goal.returns-clause-ok
 returns-clause-ok c =
