@@ -12,7 +12,7 @@ use Rattle.hol_model.specs.Logic.Derivable.{IsMember, IsSameSet, without}
 use Rattle.hol_model.specs.Kernel.Theorem.{Theorem}
 use Rattle.hol_model.specs.Kernel.Outcome.{refused}
 use Rattle.hol_model.specs.Kernel.Rules.{first_unknown, is_formula, assume_outcome}
-use Rattle.hol_model.specs.Derived.DerivedRules.{images, stated, not_elim_outcome, undisch_outcome, contr_outcome}
+use Rattle.hol_model.specs.Derived.DerivedRules.{AnswersStated, images, terms_of_theorem, stated, not_elim_outcome, undisch_outcome, contr_outcome}
 use Rattle.hol_model.proofs.Tests.{same_term-Decides}
 use Rattle.hol_model.proofs.Terms.Membership.{of_append, IsMember-append_right}
 use Rattle.hol_journal.specs.Journal.{Journal, Recorded}
@@ -27,6 +27,7 @@ use Rattle.hol_equal.proofs.CutLemmas.{shows-set}
 use Rattle.hol_equal.proofs.LemmaLemmas.{without-itself}
 use Rattle.hol_bool.proofs.LogicLemmas.{logical-type, negated-part}
 use Rattle.hol_rewrite_rules.specs.Rules.{Concludes}
+use Rattle.hol_rewrite_rules.proofs.Steps.{stated-ok}
 
 pub continues-twice : (first second third : Journal) (one two : Result Recorded Fault) → Continues first second one → Continues second third two → Continues first third two
 continues-twice first second third one two before after = record {
@@ -109,7 +110,7 @@ way-alone f p d other = record {
 }
 
 -- F under the formula and its denial
-pub falsity-shows : (falsity implies : Theorem) (p d f : Nameless) → IsSameSet (images falsity) (p ∷ images implies) → IsSameSet (images implies) (d ∷ [])
+falsity-shows : (falsity implies : Theorem) (p d f : Nameless) → IsSameSet (images falsity) (p ∷ images implies) → IsSameSet (images implies) (d ∷ [])
     → image falsity.conclusion ≡ f → Shows falsity (p ∷ d ∷ []) f
 falsity-shows falsity implies p d f one two is = record {
   same_set = record {
@@ -118,6 +119,49 @@ falsity-shows falsity implies p d f one two is = record {
   };
   concludes = is;
 }
+
+-- what the steps to the formula under F, and to F under it and its denial, show
+pub record AreShown (premise falsity part_made : Theorem) (part : NamedTerm) : Type 0 where
+  pub part_is : part_made.conclusion ≡ part
+  pub part_shows : Shows part_made (image false_term ∷ []) (image part)
+  pub falsity_is : falsity.conclusion ≡ false_term
+  pub falsity_shown : Shows falsity (image part ∷ image premise.conclusion ∷ []) (image false_term)
+
+pub steps-show : (first third fourth : Theory) (premise : Theorem) (part denial false_formula : NamedTerm) (assumed implies falsity of_falsity part_made : Recorded)
+    → IsDenied first premise.conclusion part → fourth ≡ first → denial ≡ premise.conclusion → assume_outcome first denial ≡ Ok assumed.theorem
+    → AnswersStated (Ok implies.theorem) (terms_of_theorem assumed.theorem) (not_elim_outcome assumed.theorem)
+    → AnswersStated (Ok falsity.theorem) (terms_of_theorem implies.theorem) (undisch_outcome implies.theorem)
+    → false_formula ≡ falsity.theorem.conclusion → assume_outcome third false_formula ≡ Ok of_falsity.theorem
+    → AnswersStated (Ok part_made.theorem) (image part ∷ terms_of_theorem of_falsity.theorem) (contr_outcome fourth part of_falsity.theorem)
+    → AreShown premise falsity.theorem part_made.theorem part
+steps-show first third fourth premise part denial false_formula assumed implies falsity of_falsity part_made denied theory_is denial_value assuming eliminating undischarging false_value
+    assuming_false contradicting =
+    let a = assumed.theorem in
+    let i = implies.theorem in
+    let o = of_falsity.theorem in
+    let m = part_made.theorem in
+    let assumed_is = assumed-is first denial a assuming in
+    let denial_is = ap (λ (t : Theorem). t.conclusion) assumed_is ∙ denial_value ∙ denied.is in
+    let implies_states = stated-ok (Ok implies) (terms_of_theorem a) (images a) (implication part false_term) (not_elim_outcome a) (not_elim-is a part denial_is) eliminating in
+    let falsity_states = stated-ok (Ok falsity) (terms_of_theorem i) (image part ∷ images i) false_term (undisch_outcome i) (undisch-is i part implies_states.conclusion) undischarging in
+    let of_falsity_is = assumed-is third false_formula o assuming_false in
+    let false_is : false_formula ≡ false_term = false_value ∙ falsity_states.conclusion in
+    let formula = subst (λ (t : Theory). IsFormula t part) (sym theory_is) denied.formula in
+    let contr_is = contr-is fourth o part (ap (λ (t : Theorem). t.conclusion) of_falsity_is ∙ false_is) formula in
+    let part_states = stated-ok (Ok part_made) (image part ∷ terms_of_theorem o) (images o) part (contr_outcome fourth part o) contr_is contradicting in
+    let of_falsity_hyps = ap images of_falsity_is ∙ ap (λ (t : NamedTerm). image t ∷ []) false_is in
+    let assumed_hyps = ap images assumed_is ∙ ap (λ (t : NamedTerm). image t ∷ []) denial_value in
+    let implies_set = subst (λ (h : List Nameless). IsSameSet (images i) h) assumed_hyps implies_states.hypotheses in
+    record {
+      part_is = part_states.conclusion;
+      part_shows = record {
+        same_set = subst (λ (h : List Nameless). IsSameSet h (images m)) of_falsity_hyps (record { to = part_states.hypotheses.back; back = part_states.hypotheses.to });
+        concludes = ap image part_states.conclusion;
+      };
+      falsity_is = falsity_states.conclusion;
+      falsity_shown =
+          falsity-shows falsity.theorem i (image part) (image premise.conclusion) (image false_term) falsity_states.hypotheses implies_set (ap image falsity_states.conclusion);
+    }
 
 -- so the equation has no hypothesis but the denial
 pub under-denial : (premise equation_made : Theorem) (part : NamedTerm) (c : Nameless) → premise.conclusion ≡ negation part

@@ -8,7 +8,6 @@ use Rattle.hol_model.specs.Kernel.Theorem.{Theorem}
 use Rattle.hol_model.specs.Terms.Measures.{nameless_within_limits}
 use Rattle.hol_model.specs.Logic.Derivable.{IsSameSet, without, nameless_equation}
 use Rattle.hol_model.specs.Derived.DerivedRules.{images, terms_of_theorem, not_elim_outcome, undisch_outcome, contr_outcome}
-use Rattle.hol_equal.specs.Sequents.{Shows}
 use Rattle.hol_equal.specs.Formulas.{IsFormula}
 use Rattle.hol_bool.proofs.PreludeSteps.{still_logical}
 use Rattle.hol_equal.proofs.StepLemmas.{still_made, passed_on}
@@ -17,7 +16,7 @@ use Rattle.hol_equal.proofs.LemmaLemmas.{premise-fits}
 use Rattle.hol_rewrite_rules.specs.Rules.{are_small}
 use Rattle.hol_rewrite_rules.proofs.Steps.{stated-ok}
 use Rattle.hol_rewrite_rules.proofs.RoomSteps.{stated-past, derives-past, same_lists, not_elim_room, undisch_room, contr_room, deduct_room, cut_room}
-use Rattle.hol_rewrite_rules.proofs.Denying.{continues-twice, assumed-is, denied-at, not_elim-is, undisch-is, contr-is, on_the_way, under-denial, falsity-shows, denial-proved}
+use Rattle.hol_rewrite_rules.proofs.Denying.{continues-twice, assumed-is, denied-at, not_elim-is, undisch-is, contr-is, on_the_way, under-denial, steps-show, denial-proved}
 use Rattle.hol_rewrite_rules.proofs.denial.denied.Goals as goal
 
 pub assume_known-requires : goal.assume_known-requires
@@ -187,58 +186,22 @@ deduct_antisym-requires-clause-second c =
 pub returns-in_err-equation-clause-err : goal.returns-in_err-equation-clause-err
 returns-in_err-equation-clause-err c =
     let j0 = c.args.recorder.now in
-    let logic = c.args.logic.now in
     let part = c.args.part.now in
     let premise = c.args.premise.now.theorem in
-    let j1 = c.assume_known.new.recorder in
-    let c1 = c.in_ok-assumed.ensures.continues in
-    let l1 = still_logical j0 j1 (Ok c.in_ok-assumed.assumed) logic c1 c.requires.logic in
-    let j2 = c.not_elim.new.recorder in
-    let c2 = c.in_ok-implication.ensures.continues in
-    let l2 = still_logical j1 j2 (Ok c.in_ok-implication.implication) logic c2 l1 in
-    let j3 = c.undisch.new.recorder in
-    let c3 = c.in_ok-falsity.ensures.continues in
-    let l3 = still_logical j2 j3 (Ok c.in_ok-falsity.falsity) logic c3 l2 in
-    let j4 = c.assume_known-2.new.recorder in
-    let c4 = c.in_ok-assumed_falsity.ensures.continues in
-    let l4 = still_logical j3 j4 (Ok c.in_ok-assumed_falsity.assumed_falsity) logic c4 l3 in
-    let denied = denied-at j0 logic c.requires.logic c.conclusion_of-denial.ensures.legal premise.conclusion part c.requires.part c.conclusion_of-denial.ensures.formula in
-    let assumed = c.in_ok-assumed.assumed.theorem in
-    let assumed_is = assumed-is j0.theory c.conclusion_of-denial.result.now assumed c.in_ok-assumed.ensures.outcome in
-    let denial_is = ap (λ (t : Theorem). t.conclusion) assumed_is ∙ c.conclusion_of-denial.ensures.value ∙ denied.is in
-    let not_elim_is = not_elim-is assumed part denial_is in
-    let implies = c.in_ok-implication.implication.theorem in
-    let implies_states = stated-ok (Ok c.in_ok-implication.implication) (terms_of_theorem assumed) (images assumed) (implication part false_term) (not_elim_outcome assumed)
-    not_elim_is c.in_ok-implication.ensures.outcome in
-    let undisch_is = undisch-is implies part implies_states.conclusion in
-    let falsity = c.in_ok-falsity.falsity.theorem in
-    let falsity_states = stated-ok (Ok c.in_ok-falsity.falsity) (terms_of_theorem implies) (image part ∷ images implies) false_term (undisch_outcome implies) undisch_is
-    c.in_ok-falsity.ensures.outcome in
-    let of_falsity = c.in_ok-assumed_falsity.assumed_falsity.theorem in
-    let of_falsity_is = assumed-is j3.theory c.conclusion_of-false_term.result.now of_falsity c.in_ok-assumed_falsity.ensures.outcome in
-    let false_is : c.conclusion_of-false_term.result.now ≡ false_term = c.conclusion_of-false_term.ensures.value ∙ falsity_states.conclusion in
-    let theory_is : j4.theory ≡ j0.theory = c4.theory ∙ c3.theory ∙ c2.theory ∙ c1.theory in
-    let formula = subst (λ (t : Theory). IsFormula t part) (sym theory_is) denied.formula in
-    let contr_is = contr-is j4.theory of_falsity part (ap (λ (t : Theorem). t.conclusion) of_falsity_is ∙ false_is) formula in
-    let part_made = c.in_ok-part_of_falsity.part_of_falsity.theorem in
-    let part_states = stated-ok (Ok c.in_ok-part_of_falsity.part_of_falsity) (image part ∷ terms_of_theorem of_falsity) (images of_falsity) part (contr_outcome j4.theory part of_falsity)
-    contr_is c.in_ok-part_of_falsity.ensures.outcome in
+    let denied = denied-at j0 c.args.logic.now c.requires.logic c.conclusion_of-denial.ensures.legal premise.conclusion part c.requires.part c.conclusion_of-denial.ensures.formula in
+    let theory_is = c.in_ok-assumed_falsity.ensures.continues.theory ∙ c.in_ok-falsity.ensures.continues.theory ∙ c.in_ok-implication.ensures.continues.theory
+    ∙ c.in_ok-assumed.ensures.continues.theory in
+    let shown =
+    steps-show j0.theory c.undisch.new.recorder.theory c.assume_known-2.new.recorder.theory premise part c.conclusion_of-denial.result.now c.conclusion_of-false_term.result.now
+    c.in_ok-assumed.assumed c.in_ok-implication.implication c.in_ok-falsity.falsity c.in_ok-assumed_falsity.assumed_falsity c.in_ok-part_of_falsity.part_of_falsity denied theory_is
+    c.conclusion_of-denial.ensures.value c.in_ok-assumed.ensures.outcome c.in_ok-implication.ensures.outcome c.in_ok-falsity.ensures.outcome c.conclusion_of-false_term.ensures.value
+    c.in_ok-assumed_falsity.ensures.outcome c.in_ok-part_of_falsity.ensures.outcome in
     let f = image false_term in
     let p = image part in
     let d = image premise.conclusion in
-    let of_falsity_hyps = ap images of_falsity_is ∙ ap (λ (t : NamedTerm). image t ∷ []) false_is in
-    let part_shows : Shows part_made (f ∷ []) p =
-    record {
-      same_set = subst (λ (h : List Nameless). IsSameSet h (images part_made)) of_falsity_hyps
-          (record { to = part_states.hypotheses.back; back = part_states.hypotheses.to });
-      concludes = ap image part_states.conclusion;
-    } in
-    let assumed_hyps = ap images assumed_is ∙ ap (λ (t : NamedTerm). image t ∷ []) c.conclusion_of-denial.ensures.value in
-    let implies_set = subst (λ (h : List Nameless). IsSameSet (images implies) h) assumed_hyps implies_states.hypotheses in
-    let falsity_shows = falsity-shows falsity implies p d f falsity_states.hypotheses implies_set (ap image falsity_states.conclusion) in
     rw (passed_on c.from_residual-in_err-equation.result c.in_err-equation.field-0.0 c.from_residual-in_err-equation.ensures.1)
-    (derives-past (Err c.in_err-equation.field-0.0) (nameless_within_limits (nameless_equation bool_type p f)) (are_small premise) (on_the_way f p d)
-    (nameless_equation bool_type p f) (deduct_room premise part denied.is) (c.in_err-equation.ensures.derives (f ∷ []) (p ∷ d ∷ []) p f part_shows falsity_shows))
+    (derives-past (Err c.in_err-equation.field-0.0) (nameless_within_limits (nameless_equation bool_type p f)) (are_small premise) (on_the_way f p d) (nameless_equation bool_type p f)
+    (deduct_room premise part denied.is) (c.in_err-equation.ensures.derives (f ∷ []) (p ∷ d ∷ []) p f shown.part_shows shown.falsity_shown))
 
 pub cut_known-requires-clause-first : goal.cut_known-requires-clause-first
 cut_known-requires-clause-first c =
@@ -301,174 +264,65 @@ returns-clause-continues c =
 pub cut_known-requires-clause-fits : goal.cut_known-requires-clause-fits
 cut_known-requires-clause-fits c =
     let j0 = c.args.recorder.now in
-    let logic = c.args.logic.now in
     let part = c.args.part.now in
     let premise = c.args.premise.now.theorem in
-    let j1 = c.assume_known.new.recorder in
-    let c1 = c.in_ok-assumed.ensures.continues in
-    let l1 = still_logical j0 j1 (Ok c.in_ok-assumed.assumed) logic c1 c.requires.logic in
-    let j2 = c.not_elim.new.recorder in
-    let c2 = c.in_ok-implication.ensures.continues in
-    let l2 = still_logical j1 j2 (Ok c.in_ok-implication.implication) logic c2 l1 in
-    let j3 = c.undisch.new.recorder in
-    let c3 = c.in_ok-falsity.ensures.continues in
-    let l3 = still_logical j2 j3 (Ok c.in_ok-falsity.falsity) logic c3 l2 in
-    let j4 = c.assume_known-2.new.recorder in
-    let c4 = c.in_ok-assumed_falsity.ensures.continues in
-    let l4 = still_logical j3 j4 (Ok c.in_ok-assumed_falsity.assumed_falsity) logic c4 l3 in
-    let denied = denied-at j0 logic c.requires.logic c.conclusion_of-denial.ensures.legal premise.conclusion part c.requires.part c.conclusion_of-denial.ensures.formula in
-    let assumed = c.in_ok-assumed.assumed.theorem in
-    let assumed_is = assumed-is j0.theory c.conclusion_of-denial.result.now assumed c.in_ok-assumed.ensures.outcome in
-    let denial_is = ap (λ (t : Theorem). t.conclusion) assumed_is ∙ c.conclusion_of-denial.ensures.value ∙ denied.is in
-    let not_elim_is = not_elim-is assumed part denial_is in
-    let implies = c.in_ok-implication.implication.theorem in
-    let implies_states = stated-ok (Ok c.in_ok-implication.implication) (terms_of_theorem assumed) (images assumed) (implication part false_term) (not_elim_outcome assumed)
-    not_elim_is c.in_ok-implication.ensures.outcome in
-    let undisch_is = undisch-is implies part implies_states.conclusion in
-    let falsity = c.in_ok-falsity.falsity.theorem in
-    let falsity_states = stated-ok (Ok c.in_ok-falsity.falsity) (terms_of_theorem implies) (image part ∷ images implies) false_term (undisch_outcome implies) undisch_is
-    c.in_ok-falsity.ensures.outcome in
-    let of_falsity = c.in_ok-assumed_falsity.assumed_falsity.theorem in
-    let of_falsity_is = assumed-is j3.theory c.conclusion_of-false_term.result.now of_falsity c.in_ok-assumed_falsity.ensures.outcome in
-    let false_is : c.conclusion_of-false_term.result.now ≡ false_term = c.conclusion_of-false_term.ensures.value ∙ falsity_states.conclusion in
-    let theory_is : j4.theory ≡ j0.theory = c4.theory ∙ c3.theory ∙ c2.theory ∙ c1.theory in
-    let formula = subst (λ (t : Theory). IsFormula t part) (sym theory_is) denied.formula in
-    let contr_is = contr-is j4.theory of_falsity part (ap (λ (t : Theorem). t.conclusion) of_falsity_is ∙ false_is) formula in
-    let part_made = c.in_ok-part_of_falsity.part_of_falsity.theorem in
-    let part_states = stated-ok (Ok c.in_ok-part_of_falsity.part_of_falsity) (image part ∷ terms_of_theorem of_falsity) (images of_falsity) part (contr_outcome j4.theory part of_falsity)
-    contr_is c.in_ok-part_of_falsity.ensures.outcome in
+    let denied = denied-at j0 c.args.logic.now c.requires.logic c.conclusion_of-denial.ensures.legal premise.conclusion part c.requires.part c.conclusion_of-denial.ensures.formula in
+    let theory_is = c.in_ok-assumed_falsity.ensures.continues.theory ∙ c.in_ok-falsity.ensures.continues.theory ∙ c.in_ok-implication.ensures.continues.theory
+    ∙ c.in_ok-assumed.ensures.continues.theory in
+    let shown =
+    steps-show j0.theory c.undisch.new.recorder.theory c.assume_known-2.new.recorder.theory premise part c.conclusion_of-denial.result.now c.conclusion_of-false_term.result.now
+    c.in_ok-assumed.assumed c.in_ok-implication.implication c.in_ok-falsity.falsity c.in_ok-assumed_falsity.assumed_falsity c.in_ok-part_of_falsity.part_of_falsity denied theory_is
+    c.conclusion_of-denial.ensures.value c.in_ok-assumed.ensures.outcome c.in_ok-implication.ensures.outcome c.in_ok-falsity.ensures.outcome c.conclusion_of-false_term.ensures.value
+    c.in_ok-assumed_falsity.ensures.outcome c.in_ok-part_of_falsity.ensures.outcome in
     let f = image false_term in
     let p = image part in
     let d = image premise.conclusion in
-    let of_falsity_hyps = ap images of_falsity_is ∙ ap (λ (t : NamedTerm). image t ∷ []) false_is in
-    let part_shows : Shows part_made (f ∷ []) p =
-    record {
-      same_set = subst (λ (h : List Nameless). IsSameSet h (images part_made)) of_falsity_hyps
-          (record { to = part_states.hypotheses.back; back = part_states.hypotheses.to });
-      concludes = ap image part_states.conclusion;
-    } in
-    let assumed_hyps = ap images assumed_is ∙ ap (λ (t : NamedTerm). image t ∷ []) c.conclusion_of-denial.ensures.value in
-    let implies_set = subst (λ (h : List Nameless). IsSameSet (images implies) h) assumed_hyps implies_states.hypotheses in
-    let falsity_shows = falsity-shows falsity implies p d f falsity_states.hypotheses implies_set (ap image falsity_states.conclusion) in
     let equation_made = c.in_ok-equation.equation.theorem in
-    let equation_shows = c.in_ok-equation.ensures.derives (f ∷ []) (p ∷ d ∷ []) p f part_shows falsity_shows in
-    premise-fits premise equation_made d (nameless_equation bool_type p f) refl (under-denial premise equation_made part (nameless_equation bool_type p f) denied.is equation_shows)
+    let e = nameless_equation bool_type p f in
+    let equation_shows = under-denial premise equation_made part e denied.is (c.in_ok-equation.ensures.derives (f ∷ []) (p ∷ d ∷ []) p f shown.part_shows shown.falsity_shown) in
+    premise-fits premise equation_made d e refl equation_shows
 
 pub returns-clause-ok : goal.returns-clause-ok
 returns-clause-ok c =
     let j0 = c.args.recorder.now in
-    let logic = c.args.logic.now in
     let part = c.args.part.now in
     let premise = c.args.premise.now.theorem in
-    let j1 = c.assume_known.new.recorder in
-    let c1 = c.in_ok-assumed.ensures.continues in
-    let l1 = still_logical j0 j1 (Ok c.in_ok-assumed.assumed) logic c1 c.requires.logic in
-    let j2 = c.not_elim.new.recorder in
-    let c2 = c.in_ok-implication.ensures.continues in
-    let l2 = still_logical j1 j2 (Ok c.in_ok-implication.implication) logic c2 l1 in
-    let j3 = c.undisch.new.recorder in
-    let c3 = c.in_ok-falsity.ensures.continues in
-    let l3 = still_logical j2 j3 (Ok c.in_ok-falsity.falsity) logic c3 l2 in
-    let j4 = c.assume_known-2.new.recorder in
-    let c4 = c.in_ok-assumed_falsity.ensures.continues in
-    let l4 = still_logical j3 j4 (Ok c.in_ok-assumed_falsity.assumed_falsity) logic c4 l3 in
-    let denied = denied-at j0 logic c.requires.logic c.conclusion_of-denial.ensures.legal premise.conclusion part c.requires.part c.conclusion_of-denial.ensures.formula in
-    let assumed = c.in_ok-assumed.assumed.theorem in
-    let assumed_is = assumed-is j0.theory c.conclusion_of-denial.result.now assumed c.in_ok-assumed.ensures.outcome in
-    let denial_is = ap (λ (t : Theorem). t.conclusion) assumed_is ∙ c.conclusion_of-denial.ensures.value ∙ denied.is in
-    let not_elim_is = not_elim-is assumed part denial_is in
-    let implies = c.in_ok-implication.implication.theorem in
-    let implies_states = stated-ok (Ok c.in_ok-implication.implication) (terms_of_theorem assumed) (images assumed) (implication part false_term) (not_elim_outcome assumed)
-    not_elim_is c.in_ok-implication.ensures.outcome in
-    let undisch_is = undisch-is implies part implies_states.conclusion in
-    let falsity = c.in_ok-falsity.falsity.theorem in
-    let falsity_states = stated-ok (Ok c.in_ok-falsity.falsity) (terms_of_theorem implies) (image part ∷ images implies) false_term (undisch_outcome implies) undisch_is
-    c.in_ok-falsity.ensures.outcome in
-    let of_falsity = c.in_ok-assumed_falsity.assumed_falsity.theorem in
-    let of_falsity_is = assumed-is j3.theory c.conclusion_of-false_term.result.now of_falsity c.in_ok-assumed_falsity.ensures.outcome in
-    let false_is : c.conclusion_of-false_term.result.now ≡ false_term = c.conclusion_of-false_term.ensures.value ∙ falsity_states.conclusion in
-    let theory_is : j4.theory ≡ j0.theory = c4.theory ∙ c3.theory ∙ c2.theory ∙ c1.theory in
-    let formula = subst (λ (t : Theory). IsFormula t part) (sym theory_is) denied.formula in
-    let contr_is = contr-is j4.theory of_falsity part (ap (λ (t : Theorem). t.conclusion) of_falsity_is ∙ false_is) formula in
-    let part_made = c.in_ok-part_of_falsity.part_of_falsity.theorem in
-    let part_states = stated-ok (Ok c.in_ok-part_of_falsity.part_of_falsity) (image part ∷ terms_of_theorem of_falsity) (images of_falsity) part (contr_outcome j4.theory part of_falsity)
-    contr_is c.in_ok-part_of_falsity.ensures.outcome in
+    let denied = denied-at j0 c.args.logic.now c.requires.logic c.conclusion_of-denial.ensures.legal premise.conclusion part c.requires.part c.conclusion_of-denial.ensures.formula in
+    let theory_is = c.in_ok-assumed_falsity.ensures.continues.theory ∙ c.in_ok-falsity.ensures.continues.theory ∙ c.in_ok-implication.ensures.continues.theory
+    ∙ c.in_ok-assumed.ensures.continues.theory in
+    let shown =
+    steps-show j0.theory c.undisch.new.recorder.theory c.assume_known-2.new.recorder.theory premise part c.conclusion_of-denial.result.now c.conclusion_of-false_term.result.now
+    c.in_ok-assumed.assumed c.in_ok-implication.implication c.in_ok-falsity.falsity c.in_ok-assumed_falsity.assumed_falsity c.in_ok-part_of_falsity.part_of_falsity denied theory_is
+    c.conclusion_of-denial.ensures.value c.in_ok-assumed.ensures.outcome c.in_ok-implication.ensures.outcome c.in_ok-falsity.ensures.outcome c.conclusion_of-false_term.ensures.value
+    c.in_ok-assumed_falsity.ensures.outcome c.in_ok-part_of_falsity.ensures.outcome in
     let f = image false_term in
     let p = image part in
     let d = image premise.conclusion in
-    let of_falsity_hyps = ap images of_falsity_is ∙ ap (λ (t : NamedTerm). image t ∷ []) false_is in
-    let part_shows : Shows part_made (f ∷ []) p =
-    record {
-      same_set = subst (λ (h : List Nameless). IsSameSet h (images part_made)) of_falsity_hyps
-          (record { to = part_states.hypotheses.back; back = part_states.hypotheses.to });
-      concludes = ap image part_states.conclusion;
-    } in
-    let assumed_hyps = ap images assumed_is ∙ ap (λ (t : NamedTerm). image t ∷ []) c.conclusion_of-denial.ensures.value in
-    let implies_set = subst (λ (h : List Nameless). IsSameSet (images implies) h) assumed_hyps implies_states.hypotheses in
-    let falsity_shows = falsity-shows falsity implies p d f falsity_states.hypotheses implies_set (ap image falsity_states.conclusion) in
     let equation_made = c.in_ok-equation.equation.theorem in
-    let equation_shows = c.in_ok-equation.ensures.derives (f ∷ []) (p ∷ d ∷ []) p f part_shows falsity_shows in
-    let equation_named = c.in_ok-equation.ensures.names ∙ (λ i. equation (part_states.conclusion i) (falsity_states.conclusion i)) in
-    let fits = nameless_within_limits (nameless_equation bool_type d (nameless_equation bool_type p f)) in
-    let equation_alone = under-denial premise equation_made part (nameless_equation bool_type p f) denied.is equation_shows in
-    denial-proved c.cut_known.result fits premise equation_made part (nameless_equation bool_type p f) equation_named c.cut_known.ensures.names
-    (c.cut_known.ensures.derives (images premise) (d ∷ []) d (nameless_equation bool_type p f) (shows-itself premise) equation_alone)
+    let e = nameless_equation bool_type p f in
+    let equation_shows = under-denial premise equation_made part e denied.is (c.in_ok-equation.ensures.derives (f ∷ []) (p ∷ d ∷ []) p f shown.part_shows shown.falsity_shown) in
+    let equation_is = c.in_ok-equation.ensures.names ∙ (λ i. equation (shown.part_is i) (shown.falsity_is i)) in
+    denial-proved c.cut_known.result (nameless_within_limits (nameless_equation bool_type d e)) premise equation_made part e equation_is c.cut_known.ensures.names
+    (c.cut_known.ensures.derives (images premise) (d ∷ []) d e (shows-itself premise) equation_shows)
 
 pub returns-clause-err : goal.returns-clause-err
 returns-clause-err c =
     let j0 = c.args.recorder.now in
-    let logic = c.args.logic.now in
     let part = c.args.part.now in
     let premise = c.args.premise.now.theorem in
-    let j1 = c.assume_known.new.recorder in
-    let c1 = c.in_ok-assumed.ensures.continues in
-    let l1 = still_logical j0 j1 (Ok c.in_ok-assumed.assumed) logic c1 c.requires.logic in
-    let j2 = c.not_elim.new.recorder in
-    let c2 = c.in_ok-implication.ensures.continues in
-    let l2 = still_logical j1 j2 (Ok c.in_ok-implication.implication) logic c2 l1 in
-    let j3 = c.undisch.new.recorder in
-    let c3 = c.in_ok-falsity.ensures.continues in
-    let l3 = still_logical j2 j3 (Ok c.in_ok-falsity.falsity) logic c3 l2 in
-    let j4 = c.assume_known-2.new.recorder in
-    let c4 = c.in_ok-assumed_falsity.ensures.continues in
-    let l4 = still_logical j3 j4 (Ok c.in_ok-assumed_falsity.assumed_falsity) logic c4 l3 in
-    let denied = denied-at j0 logic c.requires.logic c.conclusion_of-denial.ensures.legal premise.conclusion part c.requires.part c.conclusion_of-denial.ensures.formula in
-    let assumed = c.in_ok-assumed.assumed.theorem in
-    let assumed_is = assumed-is j0.theory c.conclusion_of-denial.result.now assumed c.in_ok-assumed.ensures.outcome in
-    let denial_is = ap (λ (t : Theorem). t.conclusion) assumed_is ∙ c.conclusion_of-denial.ensures.value ∙ denied.is in
-    let not_elim_is = not_elim-is assumed part denial_is in
-    let implies = c.in_ok-implication.implication.theorem in
-    let implies_states = stated-ok (Ok c.in_ok-implication.implication) (terms_of_theorem assumed) (images assumed) (implication part false_term) (not_elim_outcome assumed)
-    not_elim_is c.in_ok-implication.ensures.outcome in
-    let undisch_is = undisch-is implies part implies_states.conclusion in
-    let falsity = c.in_ok-falsity.falsity.theorem in
-    let falsity_states = stated-ok (Ok c.in_ok-falsity.falsity) (terms_of_theorem implies) (image part ∷ images implies) false_term (undisch_outcome implies) undisch_is
-    c.in_ok-falsity.ensures.outcome in
-    let of_falsity = c.in_ok-assumed_falsity.assumed_falsity.theorem in
-    let of_falsity_is = assumed-is j3.theory c.conclusion_of-false_term.result.now of_falsity c.in_ok-assumed_falsity.ensures.outcome in
-    let false_is : c.conclusion_of-false_term.result.now ≡ false_term = c.conclusion_of-false_term.ensures.value ∙ falsity_states.conclusion in
-    let theory_is : j4.theory ≡ j0.theory = c4.theory ∙ c3.theory ∙ c2.theory ∙ c1.theory in
-    let formula = subst (λ (t : Theory). IsFormula t part) (sym theory_is) denied.formula in
-    let contr_is = contr-is j4.theory of_falsity part (ap (λ (t : Theorem). t.conclusion) of_falsity_is ∙ false_is) formula in
-    let part_made = c.in_ok-part_of_falsity.part_of_falsity.theorem in
-    let part_states = stated-ok (Ok c.in_ok-part_of_falsity.part_of_falsity) (image part ∷ terms_of_theorem of_falsity) (images of_falsity) part (contr_outcome j4.theory part of_falsity)
-    contr_is c.in_ok-part_of_falsity.ensures.outcome in
+    let denied = denied-at j0 c.args.logic.now c.requires.logic c.conclusion_of-denial.ensures.legal premise.conclusion part c.requires.part c.conclusion_of-denial.ensures.formula in
+    let theory_is = c.in_ok-assumed_falsity.ensures.continues.theory ∙ c.in_ok-falsity.ensures.continues.theory ∙ c.in_ok-implication.ensures.continues.theory
+    ∙ c.in_ok-assumed.ensures.continues.theory in
+    let shown =
+    steps-show j0.theory c.undisch.new.recorder.theory c.assume_known-2.new.recorder.theory premise part c.conclusion_of-denial.result.now c.conclusion_of-false_term.result.now
+    c.in_ok-assumed.assumed c.in_ok-implication.implication c.in_ok-falsity.falsity c.in_ok-assumed_falsity.assumed_falsity c.in_ok-part_of_falsity.part_of_falsity denied theory_is
+    c.conclusion_of-denial.ensures.value c.in_ok-assumed.ensures.outcome c.in_ok-implication.ensures.outcome c.in_ok-falsity.ensures.outcome c.conclusion_of-false_term.ensures.value
+    c.in_ok-assumed_falsity.ensures.outcome c.in_ok-part_of_falsity.ensures.outcome in
     let f = image false_term in
     let p = image part in
     let d = image premise.conclusion in
-    let of_falsity_hyps = ap images of_falsity_is ∙ ap (λ (t : NamedTerm). image t ∷ []) false_is in
-    let part_shows : Shows part_made (f ∷ []) p =
-    record {
-      same_set = subst (λ (h : List Nameless). IsSameSet h (images part_made)) of_falsity_hyps
-          (record { to = part_states.hypotheses.back; back = part_states.hypotheses.to });
-      concludes = ap image part_states.conclusion;
-    } in
-    let assumed_hyps = ap images assumed_is ∙ ap (λ (t : NamedTerm). image t ∷ []) c.conclusion_of-denial.ensures.value in
-    let implies_set = subst (λ (h : List Nameless). IsSameSet (images implies) h) assumed_hyps implies_states.hypotheses in
-    let falsity_shows = falsity-shows falsity implies p d f falsity_states.hypotheses implies_set (ap image falsity_states.conclusion) in
     let equation_made = c.in_ok-equation.equation.theorem in
-    let equation_shows = c.in_ok-equation.ensures.derives (f ∷ []) (p ∷ d ∷ []) p f part_shows falsity_shows in
-    let fits = nameless_within_limits (nameless_equation bool_type d (nameless_equation bool_type p f)) in
-    let equation_alone = under-denial premise equation_made part (nameless_equation bool_type p f) denied.is equation_shows in
-    derives-past c.cut_known.result fits (are_small premise) (images premise ++ without d (d ∷ [])) (nameless_equation bool_type p f) (cut_room premise part denied.is)
-    (c.cut_known.ensures.derives (images premise) (d ∷ []) d (nameless_equation bool_type p f) (shows-itself premise) equation_alone)
+    let e = nameless_equation bool_type p f in
+    let equation_shows = under-denial premise equation_made part e denied.is (c.in_ok-equation.ensures.derives (f ∷ []) (p ∷ d ∷ []) p f shown.part_shows shown.falsity_shown) in
+    derives-past c.cut_known.result (nameless_within_limits (nameless_equation bool_type d e)) (are_small premise) (images premise ++ without d (d ∷ [])) e (cut_room premise part denied.is)
+    (c.cut_known.ensures.derives (images premise) (d ∷ []) d e (shows-itself premise) equation_shows)
