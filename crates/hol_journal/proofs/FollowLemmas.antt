@@ -1,45 +1,21 @@
 -- Each call of the recorder adds an entry that follows.
-use Rattle.std.proofs.Common.{◌≡◌, ℕ, List, [], ◌∷◌, true, refl, sym, subst, inl, inr, Some, None, Ok}
+use Rattle.std.proofs.Common.{◌≡◌, ℕ, List, [], ◌∷◌, true, refl, inl, inr, Some, None, Ok}
 use Rattle.std.specs.List.{list_all}
 use Rattle.hol_model.specs.Terms.HolType.{HolType}
 use Rattle.hol_model.specs.Terms.NamedTerm.{NamedTerm, type_of, is_within_limits}
-use Rattle.hol_model.specs.Logic.KnownTerm.{is_known}
 use Rattle.hol_model.specs.Logic.Derivable.{IsMember}
-use Rattle.hol_model.specs.Goals.Goals.{Sequent}
 use Rattle.hol_model.specs.Kernel.Theorem.{Theorem, IsTheorem}
 use Rattle.hol_model.specs.Kernel.Rules.{refl_outcome, assume_outcome, trans_outcome, eq_mp_outcome, mk_comb_outcome, abs_outcome, beta_outcome, deduct_antisym_outcome, define_outcome}
-use Rattle.hol_model.specs.Kernel.Instantiation.{IsInst, IsInstType, replacements_refusal, inst_refusal, inst_type_refusal}
-use Rattle.hol_kernel.specs.KnownFormula.{IsKnownFormula}
-use Rattle.hol_journal.specs.Steps.{Step, by_refl, by_trans, by_mk_comb, by_abs, by_beta, by_assume, by_eq_mp, by_deduct, by_inst, by_inst_type, by_definition, sequent_of_theorem}
+use Rattle.hol_model.specs.Kernel.Instantiation.{IsInst, IsInstType, inst_refusal, inst_type_refusal}
+use Rattle.hol_model.specs.Kernel.NamedAxioms.{eta_theorem, select_theorem}
+use Rattle.hol_journal.specs.Steps.{by_refl, by_trans, by_mk_comb, by_abs, by_beta, by_assume, by_eq_mp, by_deduct, by_inst, by_inst_type, by_eta, by_select, by_definition, sequent_of_theorem}
 use Rattle.hol_journal.specs.Limits.{FitsLog, pair_fits, type_pair_fits}
 use Rattle.hol_journal.specs.Journal.{Journal, Recorded, HasTheorem, Follows, IsJournal, IsMade}
-use Rattle.hol_journal.proofs.RuleLaws.{refl-gives, assume-gives, trans-gives, eq_mp-gives, mk_comb-gives, abs-gives, beta-gives, deduct-gives}
+use Rattle.hol_journal.proofs.RuleLaws.{refl-gives, assume-gives, trans-gives, eq_mp-gives, mk_comb-gives, abs-gives, beta-gives, deduct-gives, eta-gives, select-gives}
 use Rattle.hol_journal.proofs.DefinitionLaws.{define-known, define-gives}
 use Rattle.hol_journal.proofs.InstanceLaws.{inst-gives, inst_type-gives}
 use Rattle.hol_journal.proofs.KnownParts.{known_of, knows_none, knows_one, refl-known, assume-known, beta-known, binder_known, pairs_known, type_pairs_known}
 use Rattle.hol_journal.proofs.JournalLemmas.{given-follows, made-cited, made-there}
-
--- a value, and the fields by which it is shown
-
-pub in_view : (shown now : Journal) (step : Step) (sequent : Sequent) → shown ≡ now → Follows shown.entries step sequent → Follows now.entries step sequent
-in_view shown now step sequent same follows = subst (λ (j : Journal). Follows j.entries step sequent) same follows
-
-pub made_in_view : (shown now : Journal) (made given : Recorded) → shown ≡ now → made ≡ given → IsMade now given → IsMade shown made
-made_in_view shown now made given one two is = rw (one, two) is
-
--- so is what is known of a value, by its fields
-
-pub known_in_view : (shown now : Journal) (term : NamedTerm) → shown ≡ now → is_known now.theory term ≡ true → is_known shown.theory term ≡ true
-known_in_view shown now term same known = subst (λ (j : Journal). is_known j.theory term ≡ true) (sym same) known
-
-pub formula_in_view : (shown now : Journal) (term : NamedTerm) → shown ≡ now → IsKnownFormula now.theory term → IsKnownFormula shown.theory term
-formula_in_view shown now term same known = subst (λ (j : Journal). IsKnownFormula j.theory term) (sym same) known
-
-pub pairs_in_view : (shown now : Journal) (theta : List (NamedTerm × NamedTerm)) → shown ≡ now → replacements_refusal now.theory theta ≡ None → replacements_refusal shown.theory theta ≡ None
-pairs_in_view shown now theta same known = subst (λ (j : Journal). replacements_refusal j.theory theta ≡ None) (sym same) known
-
-pub pair_in_view : (holds : Theorem → Theorem → Type 0) → (first second one two : Recorded) → first ≡ one → second ≡ two → holds one.theorem two.theorem → holds first.theorem second.theorem
-pair_in_view holds first second one two same_first same_second is = rw (same_first, same_second) is
 
 -- what a step cites
 
@@ -57,12 +33,11 @@ cites_two journal first second one two number (inr (inl e)) = made-there journal
 cites_two journal first second one two number (inr (inr m)) = absurd m
 
 module _ (journal : Journal) (is : IsJournal journal) where
-  pub refl-follows : (term copy : NamedTerm) (ty : HolType) (answer : Theorem) → copy ≡ term → type_of term ≡ Some ty → is_within_limits term ≡ true
+  pub refl-follows : (term : NamedTerm) (ty : HolType) (answer : Theorem) → type_of term ≡ Some ty → is_within_limits term ≡ true
       → refl_outcome journal.theory term ≡ Ok answer → FitsLog answer
-      → Follows journal.entries (by_refl copy) (sequent_of_theorem answer)
-  refl-follows term copy ty answer same typed within outcome fits =
-      subst (λ (t : NamedTerm). Follows journal.entries (by_refl t) (sequent_of_theorem answer)) (sym same)
-      (given-follows journal (by_refl term) (sequent_of_theorem answer) is (cites_none journal)
+      → Follows journal.entries (by_refl term) (sequent_of_theorem answer)
+  refl-follows term ty answer typed within outcome fits =
+      given-follows journal (by_refl term) (sequent_of_theorem answer) is (cites_none journal)
       (knows_one journal.theory (by_refl term) term refl refl
       (record {
         ty = ty;
@@ -70,14 +45,13 @@ module _ (journal : Journal) (is : IsJournal journal) where
         known = known_of journal.theory term ty typed (refl-known journal.theory term answer outcome);
         within_limits = within;
       }))
-      (refl-gives journal.theory journal.entries term ty answer typed outcome fits))
+      (refl-gives journal.theory journal.entries term ty answer typed outcome fits)
 
-  pub assume-follows : (term copy : NamedTerm) (ty : HolType) (answer : Theorem) → copy ≡ term → type_of term ≡ Some ty
+  pub assume-follows : (term : NamedTerm) (ty : HolType) (answer : Theorem) → type_of term ≡ Some ty
       → is_within_limits term ≡ true → assume_outcome journal.theory term ≡ Ok answer → FitsLog answer
-      → Follows journal.entries (by_assume copy) (sequent_of_theorem answer)
-  assume-follows term copy ty answer same typed within outcome fits =
-      subst (λ (t : NamedTerm). Follows journal.entries (by_assume t) (sequent_of_theorem answer)) (sym same)
-      (given-follows journal (by_assume term) (sequent_of_theorem answer) is (cites_none journal)
+      → Follows journal.entries (by_assume term) (sequent_of_theorem answer)
+  assume-follows term ty answer typed within outcome fits =
+      given-follows journal (by_assume term) (sequent_of_theorem answer) is (cites_none journal)
       (knows_one journal.theory (by_assume term) term refl refl
       (record {
         ty = ty;
@@ -85,14 +59,13 @@ module _ (journal : Journal) (is : IsJournal journal) where
         known = known_of journal.theory term ty typed (assume-known journal.theory term answer outcome);
         within_limits = within;
       }))
-      (assume-gives journal.theory journal.entries term ty answer typed outcome fits))
+      (assume-gives journal.theory journal.entries term ty answer typed outcome fits)
 
-  pub beta-follows : (term copy : NamedTerm) (ty : HolType) (answer : Theorem) → copy ≡ term → type_of term ≡ Some ty → is_within_limits term ≡ true
+  pub beta-follows : (term : NamedTerm) (ty : HolType) (answer : Theorem) → type_of term ≡ Some ty → is_within_limits term ≡ true
       → beta_outcome journal.theory term ≡ Ok answer → FitsLog answer
-      → Follows journal.entries (by_beta copy) (sequent_of_theorem answer)
-  beta-follows term copy ty answer same typed within outcome fits =
-      subst (λ (t : NamedTerm). Follows journal.entries (by_beta t) (sequent_of_theorem answer)) (sym same)
-      (given-follows journal (by_beta term) (sequent_of_theorem answer) is (cites_none journal)
+      → Follows journal.entries (by_beta term) (sequent_of_theorem answer)
+  beta-follows term ty answer typed within outcome fits =
+      given-follows journal (by_beta term) (sequent_of_theorem answer) is (cites_none journal)
       (knows_one journal.theory (by_beta term) term refl refl
       (record {
         ty = ty;
@@ -100,7 +73,7 @@ module _ (journal : Journal) (is : IsJournal journal) where
         known = known_of journal.theory term ty typed (beta-known journal.theory term answer outcome);
         within_limits = within;
       }))
-      (beta-gives journal.theory journal.entries term ty answer typed outcome fits))
+      (beta-gives journal.theory journal.entries term ty answer typed outcome fits)
 
   pub trans-follows : (first second : Recorded) (answer : Theorem) → IsMade journal first → IsMade journal second → IsTheorem first.theorem → IsTheorem second.theorem
       → trans_outcome journal.theory first.theorem second.theorem ≡ Ok answer → FitsLog answer → Follows journal.entries (by_trans first.entry second.entry) (sequent_of_theorem answer)
@@ -134,33 +107,38 @@ module _ (journal : Journal) (is : IsJournal journal) where
       (deduct-gives journal.theory journal.entries first.entry second.entry first.theorem second.theorem answer
       (made-cited journal first made_first is_first) (made-cited journal second made_second is_second) outcome fits)
 
-  pub abs-follows : (binder copy : NamedTerm) (theorem : Recorded) (answer : Theorem) → copy ≡ binder → is_within_limits binder ≡ true → IsMade journal theorem → IsTheorem theorem.theorem
-      → abs_outcome journal.theory binder theorem.theorem ≡ Ok answer → FitsLog answer → Follows journal.entries (by_abs copy theorem.entry) (sequent_of_theorem answer)
-  abs-follows binder copy theorem answer same within made is_theorem outcome fits =
-      subst (λ (t : NamedTerm). Follows journal.entries (by_abs t theorem.entry) (sequent_of_theorem answer)) (sym same)
-      (given-follows journal (by_abs binder theorem.entry) (sequent_of_theorem answer) is (cites_one journal theorem made)
+  pub abs-follows : (binder : NamedTerm) (theorem : Recorded) (answer : Theorem) → is_within_limits binder ≡ true → IsMade journal theorem → IsTheorem theorem.theorem
+      → abs_outcome journal.theory binder theorem.theorem ≡ Ok answer → FitsLog answer → Follows journal.entries (by_abs binder theorem.entry) (sequent_of_theorem answer)
+  abs-follows binder theorem answer within made is_theorem outcome fits =
+      given-follows journal (by_abs binder theorem.entry) (sequent_of_theorem answer) is (cites_one journal theorem made)
       (knows_one journal.theory (by_abs binder theorem.entry) binder refl refl (binder_known journal.theory binder theorem.theorem answer within outcome))
-      (abs-gives journal.theory journal.entries binder theorem.entry theorem.theorem answer (made-cited journal theorem made is_theorem) outcome fits))
+      (abs-gives journal.theory journal.entries binder theorem.entry theorem.theorem answer (made-cited journal theorem made is_theorem) outcome fits)
 
-  pub inst-follows : (pairs copies : List (NamedTerm × NamedTerm)) (theorem : Recorded) (answer : Theorem) → copies ≡ pairs
-      → list_all pair_fits pairs ≡ true → IsMade journal theorem → IsTheorem theorem.theorem
+  pub inst-follows : (pairs : List (NamedTerm × NamedTerm)) (theorem : Recorded) (answer : Theorem) → list_all pair_fits pairs ≡ true → IsMade journal theorem → IsTheorem theorem.theorem
       → inst_refusal journal.theory pairs theorem.theorem ≡ None → IsInst journal.theory pairs theorem.theorem answer → FitsLog answer
-      → Follows journal.entries (by_inst theorem.entry copies) (sequent_of_theorem answer)
-  inst-follows pairs copies theorem answer same within made is_theorem none instance fits =
-      subst (λ (p : List (NamedTerm × NamedTerm)). Follows journal.entries (by_inst theorem.entry p) (sequent_of_theorem answer)) (sym same)
-      (given-follows journal (by_inst theorem.entry pairs) (sequent_of_theorem answer) is (cites_one journal theorem made)
+      → Follows journal.entries (by_inst theorem.entry pairs) (sequent_of_theorem answer)
+  inst-follows pairs theorem answer within made is_theorem none instance fits =
+      given-follows journal (by_inst theorem.entry pairs) (sequent_of_theorem answer) is (cites_one journal theorem made)
       (pairs_known journal.theory theorem.entry pairs theorem.theorem within none)
-      (inst-gives journal.theory journal.entries theorem.entry pairs theorem.theorem answer (made-cited journal theorem made is_theorem) none instance fits))
+      (inst-gives journal.theory journal.entries theorem.entry pairs theorem.theorem answer (made-cited journal theorem made is_theorem) none instance fits)
 
-  pub inst_type-follows : (pairs copies : List (HolType × HolType)) (theorem : Recorded) (answer : Theorem) → copies ≡ pairs
-      → list_all type_pair_fits pairs ≡ true → IsMade journal theorem → IsTheorem theorem.theorem
+  pub inst_type-follows : (pairs : List (HolType × HolType)) (theorem : Recorded) (answer : Theorem) → list_all type_pair_fits pairs ≡ true → IsMade journal theorem → IsTheorem theorem.theorem
       → inst_type_refusal journal.theory pairs theorem.theorem ≡ None → IsInstType journal.theory pairs theorem.theorem answer → FitsLog answer
-      → Follows journal.entries (by_inst_type theorem.entry copies) (sequent_of_theorem answer)
-  inst_type-follows pairs copies theorem answer same within made is_theorem none instance fits =
-      subst (λ (p : List (HolType × HolType)). Follows journal.entries (by_inst_type theorem.entry p) (sequent_of_theorem answer)) (sym same)
-      (given-follows journal (by_inst_type theorem.entry pairs) (sequent_of_theorem answer) is (cites_one journal theorem made)
+      → Follows journal.entries (by_inst_type theorem.entry pairs) (sequent_of_theorem answer)
+  inst_type-follows pairs theorem answer within made is_theorem none instance fits =
+      given-follows journal (by_inst_type theorem.entry pairs) (sequent_of_theorem answer) is (cites_one journal theorem made)
       (type_pairs_known journal.theory theorem.entry pairs theorem.theorem within none)
-      (inst_type-gives journal.theory journal.entries theorem.entry pairs theorem.theorem answer (made-cited journal theorem made is_theorem) none instance fits))
+      (inst_type-gives journal.theory journal.entries theorem.entry pairs theorem.theorem answer (made-cited journal theorem made is_theorem) none instance fits)
+
+  pub eta-follows : (answer : Theorem) → answer ≡ eta_theorem journal.theory → FitsLog answer → Follows journal.entries by_eta (sequent_of_theorem answer)
+  eta-follows answer same fits =
+      given-follows journal by_eta (sequent_of_theorem answer) is (cites_none journal) (knows_none journal.theory by_eta refl refl)
+      (eta-gives journal.theory journal.entries answer same fits)
+
+  pub select-follows : (answer : Theorem) → answer ≡ select_theorem journal.theory → FitsLog answer → Follows journal.entries by_select (sequent_of_theorem answer)
+  select-follows answer same fits =
+      given-follows journal by_select (sequent_of_theorem answer) is (cites_none journal) (knows_none journal.theory by_select refl refl)
+      (select-gives journal.theory journal.entries answer same fits)
 
   pub define-follows : (name : List ℕ) (term : NamedTerm) (ty : HolType) (answer : Theorem) → type_of term ≡ Some ty → is_within_limits term ≡ true
       → define_outcome journal.theory name term ≡ Ok answer → FitsLog answer

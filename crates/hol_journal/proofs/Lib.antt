@@ -6,6 +6,7 @@ pub mod InstanceLaws
 pub mod KnownParts
 pub mod JournalLemmas
 pub mod FollowLemmas
+pub mod InferenceLemmas
 pub mod StoredLemmas
 pub mod GrowthLemmas
 pub mod Places

@@ -11,6 +11,7 @@ use Rattle.hol_model.specs.Kernel.Outcome.{unless, given, refused}
 use Rattle.hol_model.specs.Kernel.Rules.{first_unknown, dest_equation, dest_trivial_redex, is_formula, is_free_in_hypotheses, concluded, refl_outcome}
 use Rattle.hol_model.specs.Kernel.Rules.{assume_outcome, trans_outcome, eq_mp_outcome, mk_comb_outcome, abs_outcome, beta_outcome}
 use Rattle.hol_model.specs.Kernel.Rules.{deduct_antisym_outcome}
+use Rattle.hol_model.specs.Kernel.NamedAxioms.{eta_theorem, select_theorem}
 use Rattle.hol_model.specs.Logic.KnownTerm.{knows_type}
 use Rattle.hol_model.specs.Terms.Substitution.{close_at, close, occurs_free, put, only}
 use Rattle.hol_model.proofs.Terms.HolTypeEq.{type_eq-self}
@@ -25,7 +26,7 @@ use Rattle.std.specs.Option.{option_map, option_map_or, is_some}
 use Rattle.hol_model.specs.Logs.LogState.{set_of, term_type}
 use Rattle.hol_model.specs.Logs.LogSequents.{supposing, equation_of, is_equation, is_free_variable, left_side, right_side, side_type, redex_body, abstraction_over}
 use Rattle.hol_model.specs.Logs.LogFaults.{takes, is_free_in_any, is_trivial_redex}
-use Rattle.hol_journal.specs.Steps.{by_refl, by_assume, by_trans, by_eq_mp, by_mk_comb, by_abs, by_beta, by_deduct, JournalEntry, sequent_of_theorem}
+use Rattle.hol_journal.specs.Steps.{by_refl, by_assume, by_trans, by_eq_mp, by_mk_comb, by_abs, by_beta, by_deduct, by_eta, by_select, JournalEntry, sequent_of_theorem}
 use Rattle.hol_journal.specs.Lines.{Gives}
 use Rattle.hol_journal.specs.Limits.{FitsLog}
 use Rattle.hol_journal.proofs.SequentLemmas.{set_of-merged, set_of-ordered, equation_of-images, term_type-image}
@@ -318,3 +319,18 @@ beta-gives theory entries term ty answer typed outcome fits =
       condition = ap (λ t. not (is_trivial_redex t)) ((names.terms term (inl refl)).is ∙ r.image_is) ∙ ap (λ free_there. not (not free_there)) (closed-not_free 0 r.name r.ty (image body));
       room = no_more theory state going;
     })
+
+-- the axioms
+
+pub eta-gives : (theory : Theory) (entries : List JournalEntry) (answer : Theorem) → answer ≡ eta_theorem theory → FitsLog answer → Gives theory entries by_eta (sequent_of_theorem answer)
+eta-gives theory entries answer is fits =
+    shown theory entries by_eta answer fits
+    (λ state numbers names. ap sequent_of_theorem (sym is))
+    (λ state numbers going names. record { number = refl; name = refl; kind = refl; condition = refl; room = no_more theory state going })
+
+pub select-gives : (theory : Theory) (entries : List JournalEntry) (answer : Theorem) → answer ≡ select_theorem theory → FitsLog answer
+    → Gives theory entries by_select (sequent_of_theorem answer)
+select-gives theory entries answer is fits =
+    shown theory entries by_select answer fits
+    (λ state numbers names. ap sequent_of_theorem (sym is))
+    (λ state numbers going names. record { number = refl; name = refl; kind = refl; condition = refl; room = no_more theory state going })

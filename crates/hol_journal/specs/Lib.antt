@@ -11,3 +11,4 @@ pub mod Kept
 pub mod KeptCode
 pub mod Stored
 pub mod KeptViews
+pub mod Inferences

@@ -2,11 +2,13 @@
 #![tactic(auto)]
 
 pub mod entry;
+mod inference;
 mod kept;
 mod laws;
 mod limits;
 mod recorder;
 mod trail;
 
+pub use inference::Inference;
 pub use laws::journals_grow;
 pub use recorder::{Rec, Recorder};

@@ -1,5 +1,5 @@
 use Rattle.std.proofs.Common.{◌≡◌, take}
-use Rattle.hol_journal.proofs.recorder.copied_terms.Given as goal
+use Rattle.hol_journal.proofs.inference.copied_terms.Given as goal
 
 abbrev pub invariant-loop-pair : goal.invariant-loop-pair
 invariant-loop-pair l = l.copies.items ≡ take l.pair-index l.pairs

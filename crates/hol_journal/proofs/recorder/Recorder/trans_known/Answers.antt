@@ -1,8 +1,0 @@
-use Rattle.hol_kernel.specs.Fits.{TransFits}
-use Rattle.hol_journal.specs.Recorder.{viewed_rec}
-use Rattle.hol_journal.proofs.FollowLemmas.{pair_in_view}
-use Rattle.hol_journal.proofs.recorder.Recorder.trans_known.Goals as goal
-
-pub trans_known-requires-clause-fits : goal.trans_known-requires-clause-fits
-trans_known-requires-clause-fits c =
-    pair_in_view TransFits (viewed_rec c.first.inside) (viewed_rec c.second.inside) c.args.first.now c.args.second.now c.first.view_is c.second.view_is c.requires.fits
