@@ -12,15 +12,9 @@ use hol_journal::{Rec, Recorder};
 use hol_model::Fault;
 use hol_prelude::numbers::{ETA_AX, SELECT_AX};
 use hol_prelude::{Bool, theorem_of};
-use std::alloc::Global;
 
 // The theorem of this number, which has no hypotheses.
-fn restated(
-    recorder: &mut Recorder,
-    alloc: Global,
-    logic: &Bool,
-    number: usize,
-) -> Result<Rec, Fault>
+fn restated(recorder: &mut Recorder, logic: &Bool, number: usize) -> Result<Rec, Fault>
     requires logic { HasLogic recorder.old logic.now }
     requires number { number < length prelude_theorems }
     ensures continues { Continues recorder.old recorder.new result }
@@ -29,27 +23,27 @@ fn restated(
 {
     let stored = theorem_of(recorder, logic, number);
     let conclusion = conclusion_of(recorder, stored);
-    named(recorder, alloc, conclusion, stored)
+    named(recorder, conclusion, stored)
 }
 
 /// ETA_AX: `!t. (\x. t x) = t`, on the theory that the recorder has now, in two steps. It is refused where there is no
 /// memory, and for no other reason.
-pub fn eta_ax(recorder: &mut Recorder, alloc: Global, logic: &Bool) -> Result<Rec, Fault>
+pub fn eta_ax(recorder: &mut Recorder, logic: &Bool) -> Result<Rec, Fault>
     requires { HasLogic recorder.old logic.now }
     ensures continues { Continues recorder.old recorder.new result }
     ensures ok { IfOk result (λ made. made.theorem ≡ record { theory = recorder.old.theory; hypotheses = []; conclusion = eta_axiom }) }
     ensures err { IfErr result (λ fault. fault ≡ Memory) }
 {
-    restated(recorder, alloc, logic, ETA_AX)
+    restated(recorder, logic, ETA_AX)
 }
 
 /// SELECT_AX: `!P x. P x ==> P (@ P)`, on the theory that the recorder has now, in two steps. It is refused where there
 /// is no memory, and for no other reason.
-pub fn select_ax(recorder: &mut Recorder, alloc: Global, logic: &Bool) -> Result<Rec, Fault>
+pub fn select_ax(recorder: &mut Recorder, logic: &Bool) -> Result<Rec, Fault>
     requires { HasLogic recorder.old logic.now }
     ensures continues { Continues recorder.old recorder.new result }
     ensures ok { IfOk result (λ made. made.theorem ≡ record { theory = recorder.old.theory; hypotheses = []; conclusion = select_axiom }) }
     ensures err { IfErr result (λ fault. fault ≡ Memory) }
 {
-    restated(recorder, alloc, logic, SELECT_AX)
+    restated(recorder, logic, SELECT_AX)
 }

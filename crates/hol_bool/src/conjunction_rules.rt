@@ -23,58 +23,39 @@ use hol_model::Fault;
 use hol_prelude::numbers::{AND_REFL, CONJ, CONJUNCT1, CONJUNCT2, T_AND_T, TRUTH};
 use hol_prelude::{Bool, theorem_of};
 use hol_terms::Term;
-use std::alloc::Global;
 
 /// CONJUNCT1: from `p /\ q`, `p`, in at most five steps. Refused where the conclusion is no conjunction.
 #[tactic(auto, using(crate::proofs::InferredRules::infers_conjunct1))]
-pub fn conjunct1(
-    recorder: &mut Recorder,
-    alloc: Global,
-    logic: &Bool,
-    premise: &Rec,
-) -> Result<Rec, Fault>
+pub fn conjunct1(recorder: &mut Recorder, logic: &Bool, premise: &Rec) -> Result<Rec, Fault>
     requires logic { HasLogic recorder.old logic.now }
     requires premise { IsMade recorder.old premise.now }
     ensures continues { Continues recorder.old recorder.new result }
     ensures outcome { AnswersStated (theorem_in result) (terms_of_theorem premise.now.theorem) (conjunct1_outcome premise.now.theorem) }
     ensures inferred { Infers recorder.old.theory rule_conjunct1 (premise.now.theorem ∷ []) (theorem_in result) }
 {
+    let alloc = recorder.alloc();
     let Some(sides) = sides_of(recorder, logic, premise, "/\\") else {
         return Err(Fault::BadShape);
     };
     let terms = for_p_q(alloc, sides.left, sides.right)?;
-    by_leading_theorem(
-        recorder, alloc, logic, CONJUNCT1, &terms, sides.left, premise,
-    )
+    by_leading_theorem(recorder, logic, CONJUNCT1, &terms, sides.left, premise)
 }
 
 /// CONJUNCT2: from `p /\ q`, `q`, in at most five steps. Refused where the conclusion is no conjunction.
 #[tactic(auto, using(crate::proofs::InferredRules::infers_conjunct2))]
-pub fn conjunct2(
-    recorder: &mut Recorder,
-    alloc: Global,
-    logic: &Bool,
-    premise: &Rec,
-) -> Result<Rec, Fault>
+pub fn conjunct2(recorder: &mut Recorder, logic: &Bool, premise: &Rec) -> Result<Rec, Fault>
     requires logic { HasLogic recorder.old logic.now }
     requires premise { IsMade recorder.old premise.now }
     ensures continues { Continues recorder.old recorder.new result }
     ensures outcome { AnswersStated (theorem_in result) (terms_of_theorem premise.now.theorem) (conjunct2_outcome premise.now.theorem) }
     ensures inferred { Infers recorder.old.theory rule_conjunct2 (premise.now.theorem ∷ []) (theorem_in result) }
 {
+    let alloc = recorder.alloc();
     let Some(sides) = sides_of(recorder, logic, premise, "/\\") else {
         return Err(Fault::BadShape);
     };
     let terms = for_p_q(alloc, sides.left, sides.right)?;
-    by_leading_theorem(
-        recorder,
-        alloc,
-        logic,
-        CONJUNCT2,
-        &terms,
-        sides.right,
-        premise,
-    )
+    by_leading_theorem(recorder, logic, CONJUNCT2, &terms, sides.right, premise)
 }
 
 // Whether a theorem has a hypothesis named `T`.
@@ -93,12 +74,7 @@ fn is_truth_among(terms: &[Term]) -> bool
 }
 
 // From `p` without the hypothesis `T`, `T <=> p`.
-fn truth_equation(
-    recorder: &mut Recorder,
-    alloc: Global,
-    logic: &Bool,
-    premise: &Rec,
-) -> Result<Rec, Fault>
+fn truth_equation(recorder: &mut Recorder, logic: &Bool, premise: &Rec) -> Result<Rec, Fault>
     requires logic { HasLogic recorder.old logic.now }
     requires premise { IsMade recorder.old premise.now }
     requires absent { list_any is_true premise.now.theorem.hypotheses ≡ false }
@@ -108,14 +84,13 @@ fn truth_equation(
         → DerivesIf room result h (nameless_equation bool_type nameless.true_term p) }
 {
     let truth = theorem_of(recorder, logic, TRUTH);
-    steps::deduct_antisym(recorder, alloc, truth, premise)
+    steps::deduct_antisym(recorder, truth, premise)
 }
 
 // From `T <=> p` and `T <=> q`, `T /\ T <=> p /\ q`.
 #[tactic(auto, using(crate::proofs::PreludeSteps::staying))]
 fn conj_congruence(
     recorder: &mut Recorder,
-    alloc: Global,
     logic: &Bool,
     first: &Rec,
     second: &Rec,
@@ -131,15 +106,14 @@ fn conj_congruence(
         → DerivesIf room result (h ++ k) (nameless_equation bool_type (nameless.conjunction nameless.true_term nameless.true_term) (nameless.conjunction p q)) }
 {
     let connective = theorem_of(recorder, logic, AND_REFL);
-    let function = steps::mk_comb(recorder, alloc, connective, first)?;
-    steps::mk_comb(recorder, alloc, &function, second)
+    let function = steps::mk_comb(recorder, connective, first)?;
+    steps::mk_comb(recorder, &function, second)
 }
 
 // From `T <=> p` and `T <=> q`, `p /\ q`.
 #[tactic(auto, using(crate::proofs::PreludeSteps::staying))]
 fn conj_of_truths(
     recorder: &mut Recorder,
-    alloc: Global,
     logic: &Bool,
     first: &Rec,
     second: &Rec,
@@ -154,16 +128,15 @@ fn conj_of_truths(
         → Shows second.now.theorem k (nameless_equation bool_type nameless.true_term q) → FitsIf room (nameless.conjunction p q)
         → DerivesIf room result (h ++ k) (nameless.conjunction p q) }
 {
-    let congruence = conj_congruence(recorder, alloc, logic, first, second)?;
+    let congruence = conj_congruence(recorder, logic, first, second)?;
     let truths = theorem_of(recorder, logic, T_AND_T);
-    steps::eq_mp(recorder, alloc, &congruence, truths)
+    steps::eq_mp(recorder, &congruence, truths)
 }
 
 // CONJ, by the theorem of the prelude at the two formulas.
 #[tactic(auto, using(hol_equal::proofs::StepLemmas::still_made, hol_equal::proofs::StepLemmas::now_made))]
 fn conj_by_theorem(
     recorder: &mut Recorder,
-    alloc: Global,
     logic: &Bool,
     first: &Rec,
     second: &Rec,
@@ -176,20 +149,20 @@ fn conj_by_theorem(
     ensures derives { (h k : List Nameless) (p q : Nameless) (room : Room) → Shows first.now.theorem h p → Shows second.now.theorem k q
         → FitsIf room (nameless_equation bool_type q (nameless.conjunction p q)) → DerivesIf room result (h ++ k) (nameless.conjunction p q) }
 {
+    let alloc = recorder.alloc();
     let p = conclusion_of(recorder, first);
     let q = conclusion_of(recorder, second);
     let both = connect(alloc, "/\\", p, q)?;
     let stated = equivalence(alloc, q, &both)?;
     let terms = for_p_q(alloc, p, q)?;
-    let equation = by_leading_theorem(recorder, alloc, logic, CONJ, &terms, &stated, first)?;
-    steps::eq_mp_known(recorder, alloc, &equation, second)
+    let equation = by_leading_theorem(recorder, logic, CONJ, &terms, &stated, first)?;
+    steps::eq_mp_known(recorder, &equation, second)
 }
 
 // CONJ, with the room that it needs. No formula is named where `T` is no hypothesis.
 #[tactic(auto, using(crate::proofs::PreludeSteps::staying))]
 pub(crate) fn conj_in_room(
     recorder: &mut Recorder,
-    alloc: Global,
     logic: &Bool,
     first: &Rec,
     second: &Rec,
@@ -203,22 +176,16 @@ pub(crate) fn conj_in_room(
         → FitsIf room (nameless_equation bool_type q (nameless.conjunction p q)) → DerivesIf room result (h ++ k) (nameless.conjunction p q) }
 {
     if supposes_truth(recorder, first) || supposes_truth(recorder, second) {
-        return conj_by_theorem(recorder, alloc, logic, first, second);
+        return conj_by_theorem(recorder, logic, first, second);
     }
-    let left = truth_equation(recorder, alloc, logic, first)?;
-    let right = truth_equation(recorder, alloc, logic, second)?;
-    conj_of_truths(recorder, alloc, logic, &left, &right)
+    let left = truth_equation(recorder, logic, first)?;
+    let right = truth_equation(recorder, logic, second)?;
+    conj_of_truths(recorder, logic, &left, &right)
 }
 
 /// CONJ: from `p` and `q`, `p /\ q`, in at most six steps, and where `T` is no hypothesis in five that name no formula.
 #[tactic(auto, using(crate::proofs::InferredRules::infers_conj))]
-pub fn conj(
-    recorder: &mut Recorder,
-    alloc: Global,
-    logic: &Bool,
-    first: &Rec,
-    second: &Rec,
-) -> Result<Rec, Fault>
+pub fn conj(recorder: &mut Recorder, logic: &Bool, first: &Rec, second: &Rec) -> Result<Rec, Fault>
     requires logic { HasLogic recorder.old logic.now }
     requires first { IsMade recorder.old first.now }
     requires second { IsMade recorder.old second.now }
@@ -226,5 +193,5 @@ pub fn conj(
     ensures outcome { AnswersStated (theorem_in result) (terms_of_theorem first.now.theorem ++ terms_of_theorem second.now.theorem) (conj_outcome first.now.theorem second.now.theorem) }
     ensures inferred { Infers recorder.old.theory rule_conj (first.now.theorem ∷ second.now.theorem ∷ []) (theorem_in result) }
 {
-    conj_in_room(recorder, alloc, logic, first, second)
+    conj_in_room(recorder, logic, first, second)
 }

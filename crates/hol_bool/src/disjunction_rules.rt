@@ -33,7 +33,6 @@ use std::alloc::Global;
 // From the side of `p \/ q` that the theorem of this number of the prelude takes, `p \/ q`.
 fn with_disjunct(
     recorder: &mut Recorder,
-    alloc: Global,
     logic: &Bool,
     number: usize,
     p: &Term,
@@ -50,22 +49,17 @@ fn with_disjunct(
     ensures names { IfOk result (λ made. made.theorem.conclusion ≡ disjunction p.now q.now) }
     ensures derives { MakesDisjunction recorder.old.theory number p.now q.now premise.now.theorem result }
 {
+    let alloc = recorder.alloc();
     recorder.theory_is_legal();
     let stated = connect(alloc, "\\/", p, q)?;
     let terms = for_p_q(alloc, p, q)?;
-    by_leading_theorem(recorder, alloc, logic, number, &terms, &stated, premise)
+    by_leading_theorem(recorder, logic, number, &terms, &stated, premise)
 }
 
 /// DISJ1: from `p`, `p \/ q`, in at most five steps. Refused where `q` is not of type `bool`, and then where the theory does not
 /// know a type or a constant of it.
 #[tactic(auto, using(crate::proofs::InferredRules::infers_disj1))]
-pub fn disj1(
-    recorder: &mut Recorder,
-    alloc: Global,
-    logic: &Bool,
-    q: &Term,
-    premise: &Rec,
-) -> Result<Rec, Fault>
+pub fn disj1(recorder: &mut Recorder, logic: &Bool, q: &Term, premise: &Rec) -> Result<Rec, Fault>
     requires logic { HasLogic recorder.old logic.now }
     requires premise { IsMade recorder.old premise.now }
     ensures continues { Continues recorder.old recorder.new result }
@@ -75,19 +69,13 @@ pub fn disj1(
     let _type = q.ty();
     pass_formula(recorder, q)?;
     let p = conclusion_of(recorder, premise);
-    with_disjunct(recorder, alloc, logic, DISJ1, p, q, premise)
+    with_disjunct(recorder, logic, DISJ1, p, q, premise)
 }
 
 /// DISJ2: from `q`, `p \/ q`, in at most five steps. Refused where `p` is not of type `bool`, and then where the theory does not
 /// know a type or a constant of it.
 #[tactic(auto, using(crate::proofs::InferredRules::infers_disj2))]
-pub fn disj2(
-    recorder: &mut Recorder,
-    alloc: Global,
-    logic: &Bool,
-    p: &Term,
-    premise: &Rec,
-) -> Result<Rec, Fault>
+pub fn disj2(recorder: &mut Recorder, logic: &Bool, p: &Term, premise: &Rec) -> Result<Rec, Fault>
     requires logic { HasLogic recorder.old logic.now }
     requires premise { IsMade recorder.old premise.now }
     ensures continues { Continues recorder.old recorder.new result }
@@ -97,7 +85,7 @@ pub fn disj2(
     let _type = p.ty();
     pass_formula(recorder, p)?;
     let q = conclusion_of(recorder, premise);
-    with_disjunct(recorder, alloc, logic, DISJ2, p, q, premise)
+    with_disjunct(recorder, logic, DISJ2, p, q, premise)
 }
 
 // `(q ==> r) ==> r`, of formulas.
@@ -112,7 +100,6 @@ fn other_case(alloc: Global, q: &Term, r: &Term) -> Result<Term, Fault>
 // From `p \/ q`, `(p ==> r) ==> (q ==> r) ==> r`, what is behind the first `==>` being handed in.
 fn disj_cases_in_room(
     recorder: &mut Recorder,
-    alloc: Global,
     logic: &Bool,
     sides: Sides,
     r: &Term,
@@ -133,18 +120,18 @@ fn disj_cases_in_room(
         → FitsIf room (image (both_cases sides.entry.left.now sides.entry.right.now r.now))
         → DerivesIf room result h (image (both_cases sides.entry.left.now sides.entry.right.now r.now)) }
 {
+    let alloc = recorder.alloc();
     recorder.theory_is_legal();
     let case = connect(alloc, "==>", sides.left, r)?;
     let stated = connect(alloc, "==>", &case, rest)?;
     let terms = for_p_q_r(alloc, sides.left, sides.right, r)?;
-    by_leading_theorem(recorder, alloc, logic, DISJ_CASES, &terms, &stated, theorem)
+    by_leading_theorem(recorder, logic, DISJ_CASES, &terms, &stated, theorem)
 }
 
 // From `(p ==> r) ==> s` and `r`, the `s` that is handed in, without the hypothesis `p` of the second.
 #[tactic(auto, using(crate::proofs::PreludeSteps::staying))]
 fn with_case(
     recorder: &mut Recorder,
-    alloc: Global,
     logic: &Bool,
     p: &Term,
     consequent: &Term,
@@ -165,15 +152,14 @@ fn with_case(
         → FitsIf room (nameless_equation bool_type (nameless.implication (nameless.implication (image p.now) r) (image consequent.now))
         (image consequent.now)) → DerivesIf room result (without (image p.now) k ++ h) (image consequent.now) }
 {
-    let implication = disch_in_room(recorder, alloc, logic, p, case)?;
-    mp_known(recorder, alloc, logic, consequent, whole, &implication)
+    let implication = disch_in_room(recorder, logic, p, case)?;
+    mp_known(recorder, logic, consequent, whole, &implication)
 }
 
 // DISJ_CASES, with the room that it needs: from `p \/ q`, `r` and `r`, the `r` of the first case.
 #[tactic(auto, using(crate::proofs::PreludeSteps::staying))]
 fn by_cases(
     recorder: &mut Recorder,
-    alloc: Global,
     logic: &Bool,
     sides: Sides,
     theorem: &Rec,
@@ -195,11 +181,12 @@ fn by_cases(
         → Shows second.now.theorem j r → LeavesRoomIf room (image sides.entry.left.now) → LeavesRoomIf room (image sides.entry.right.now)
         → LeavesRoomIf room r → DerivesIf room result (without (image sides.entry.right.now) j ++ (without (image sides.entry.left.now) i ++ h)) r }
 {
+    let alloc = recorder.alloc();
     let r = conclusion_of(recorder, first);
     let rest = other_case(alloc, sides.right, r)?;
-    let cases = disj_cases_in_room(recorder, alloc, logic, sides, r, &rest, theorem)?;
-    let other = with_case(recorder, alloc, logic, sides.left, &rest, &cases, first)?;
-    with_case(recorder, alloc, logic, sides.right, r, &other, second)
+    let cases = disj_cases_in_room(recorder, logic, sides, r, &rest, theorem)?;
+    let other = with_case(recorder, logic, sides.left, &rest, &cases, first)?;
+    with_case(recorder, logic, sides.right, r, &other, second)
 }
 
 /// DISJ_CASES: from `p \/ q`, `r` and `r`, `r` without the hypothesis `p` of the first case and `q` of the second, in at
@@ -208,7 +195,6 @@ fn by_cases(
 #[tactic(auto, using(crate::proofs::InferredRules::infers_disj_cases))]
 pub fn disj_cases(
     recorder: &mut Recorder,
-    alloc: Global,
     logic: &Bool,
     theorem: &Rec,
     first: &Rec,
@@ -233,5 +219,5 @@ pub fn disj_cases(
     ) {
         return Err(Fault::NotAlpha);
     }
-    by_cases(recorder, alloc, logic, sides, theorem, first, second)
+    by_cases(recorder, logic, sides, theorem, first, second)
 }

@@ -25,13 +25,11 @@ use hol_model::Fault;
 use hol_prelude::Bool;
 use hol_prelude::numbers::{CONJUNCT1, DISCH, MP};
 use hol_terms::Term;
-use std::alloc::Global;
 
 /// MP, with the room that it needs: from `p ==> q` and `p`, which are not compared for it, the `q` that is handed in.
 #[tactic(auto, using(hol_equal::proofs::StepLemmas::still_made, hol_equal::proofs::StepLemmas::now_made))]
 pub fn mp_known(
     recorder: &mut Recorder,
-    alloc: Global,
     logic: &Bool,
     consequent: &Term,
     first: &Rec,
@@ -48,24 +46,19 @@ pub fn mp_known(
         → Shows second.now.theorem k p → FitsIf room (nameless_equation bool_type (nameless.implication p (image consequent.now))
         (image consequent.now)) → DerivesIf room result (k ++ h) (image consequent.now) }
 {
+    let alloc = recorder.alloc();
     let whole = conclusion_of(recorder, first);
     let antecedent = conclusion_of(recorder, second);
     let stated = equivalence(alloc, whole, consequent)?;
     let terms = for_p_q(alloc, antecedent, consequent)?;
-    let equation = by_leading_theorem(recorder, alloc, logic, MP, &terms, &stated, second)?;
-    steps::eq_mp_known(recorder, alloc, &equation, first)
+    let equation = by_leading_theorem(recorder, logic, MP, &terms, &stated, second)?;
+    steps::eq_mp_known(recorder, &equation, first)
 }
 
 /// MP: from `p ==> q` and `p`, `q`, in at most six steps. Refused where the first conclusion is no implication, and then where
 /// the second is not its left side up to the names of bound variables.
 #[tactic(auto, using(crate::proofs::InferredRules::infers_mp))]
-pub fn mp(
-    recorder: &mut Recorder,
-    alloc: Global,
-    logic: &Bool,
-    first: &Rec,
-    second: &Rec,
-) -> Result<Rec, Fault>
+pub fn mp(recorder: &mut Recorder, logic: &Bool, first: &Rec, second: &Rec) -> Result<Rec, Fault>
     requires logic { HasLogic recorder.old logic.now }
     requires first { IsMade recorder.old first.now }
     requires second { IsMade recorder.old second.now }
@@ -79,17 +72,11 @@ pub fn mp(
     if !aconv(sides.left, conclusion_of(recorder, second)) {
         return Err(Fault::NotAlpha);
     }
-    mp_known(recorder, alloc, logic, sides.right, first, second)
+    mp_known(recorder, logic, sides.right, first, second)
 }
 
 // From `p /\ q`, as a hypothesis, `p`.
-fn first_of_both(
-    recorder: &mut Recorder,
-    alloc: Global,
-    logic: &Bool,
-    p: &Term,
-    q: &Term,
-) -> Result<Rec, Fault>
+fn first_of_both(recorder: &mut Recorder, logic: &Bool, p: &Term, q: &Term) -> Result<Rec, Fault>
     requires logic { HasLogic recorder.old logic.now }
     requires first { IsFormula recorder.old.theory p.now }
     requires second { IsFormula recorder.old.theory q.now }
@@ -97,15 +84,15 @@ fn first_of_both(
     ensures derives { (room : Room) → FitsIf room (nameless.conjunction (image p.now) (image q.now))
         → DerivesIf room result (nameless.conjunction (image p.now) (image q.now) ∷ []) (image p.now) }
 {
+    let alloc = recorder.alloc();
     let terms = for_p_q(alloc, p, q)?;
-    instance_of_theorem(recorder, alloc, logic, CONJUNCT1, &terms, p)
+    instance_of_theorem(recorder, logic, CONJUNCT1, &terms, p)
 }
 
 // From `q`, `p /\ q <=> p` without the hypothesis `p`.
 #[tactic(auto, using(crate::proofs::PreludeSteps::staying))]
 fn conj_absorption(
     recorder: &mut Recorder,
-    alloc: Global,
     logic: &Bool,
     p: &Term,
     premise: &Rec,
@@ -118,11 +105,11 @@ fn conj_absorption(
         → FitsIf room (nameless_equation bool_type (nameless.conjunction (image p.now) q) (nameless.conjunction (image p.now) q))
         → DerivesIf room result (without (image p.now) h) (nameless_equation bool_type (nameless.conjunction (image p.now) q) (image p.now)) }
 {
-    let assumed = steps::assume_known(recorder, alloc, p)?;
-    let joined = conj_in_room(recorder, alloc, logic, &assumed, premise)?;
+    let assumed = steps::assume_known(recorder, p)?;
+    let joined = conj_in_room(recorder, logic, &assumed, premise)?;
     let q = conclusion_of(recorder, premise);
-    let first = first_of_both(recorder, alloc, logic, p, q)?;
-    steps::deduct_antisym_known(recorder, alloc, &joined, &first)
+    let first = first_of_both(recorder, logic, p, q)?;
+    steps::deduct_antisym_known(recorder, &joined, &first)
 }
 
 /// DISCH, with the room that it needs: from `q`, `p ==> q` without the hypothesis `p`, for a formula `p` that the theory
@@ -130,7 +117,6 @@ fn conj_absorption(
 #[tactic(auto, using(crate::proofs::PreludeSteps::staying))]
 pub fn disch_in_room(
     recorder: &mut Recorder,
-    alloc: Global,
     logic: &Bool,
     p: &Term,
     premise: &Rec,
@@ -144,23 +130,18 @@ pub fn disch_in_room(
         → FitsIf room (nameless_equation bool_type (nameless.conjunction (image p.now) q) (nameless.conjunction (image p.now) q))
         → DerivesIf room result (without (image p.now) h) (nameless.implication (image p.now) q) }
 {
+    let alloc = recorder.alloc();
     let q = conclusion_of(recorder, premise);
     let stated = connect(alloc, "==>", p, q)?;
     let terms = for_p_q(alloc, p, q)?;
-    let equation = conj_absorption(recorder, alloc, logic, p, premise)?;
-    by_leading_theorem(recorder, alloc, logic, DISCH, &terms, &stated, &equation)
+    let equation = conj_absorption(recorder, logic, p, premise)?;
+    by_leading_theorem(recorder, logic, DISCH, &terms, &stated, &equation)
 }
 
 /// DISCH: from `q`, `p ==> q` without the hypothesis `p`, in at most 16 steps. Refused where `p` is not of type `bool`, and then
 /// where the theory does not know a type or a constant of it.
 #[tactic(auto, using(crate::proofs::InferredRules::infers_disch))]
-pub fn disch(
-    recorder: &mut Recorder,
-    alloc: Global,
-    logic: &Bool,
-    p: &Term,
-    premise: &Rec,
-) -> Result<Rec, Fault>
+pub fn disch(recorder: &mut Recorder, logic: &Bool, p: &Term, premise: &Rec) -> Result<Rec, Fault>
     requires logic { HasLogic recorder.old logic.now }
     requires premise { IsMade recorder.old premise.now }
     ensures continues { Continues recorder.old recorder.new result }
@@ -169,13 +150,12 @@ pub fn disch(
 {
     let _type = p.ty();
     pass_formula(recorder, p)?;
-    disch_in_room(recorder, alloc, logic, p, premise)
+    disch_in_room(recorder, logic, p, premise)
 }
 
 // From `p ==> q`, `q` with the hypothesis `p`.
 fn undisch_in_room(
     recorder: &mut Recorder,
-    alloc: Global,
     logic: &Bool,
     p: &Term,
     q: &Term,
@@ -190,21 +170,17 @@ fn undisch_in_room(
         → FitsIf room (nameless_equation bool_type (nameless.implication (image p.now) (image q.now)) (image q.now))
         → DerivesIf room result (image p.now ∷ h) (image q.now) }
 {
+    let alloc = recorder.alloc();
     let whole = conclusion_of(recorder, premise);
     let stated = equivalence(alloc, whole, q)?;
     let terms = for_p_q(alloc, p, q)?;
-    let equation = instance_of_theorem(recorder, alloc, logic, MP, &terms, &stated)?;
-    steps::eq_mp_known(recorder, alloc, &equation, premise)
+    let equation = instance_of_theorem(recorder, logic, MP, &terms, &stated)?;
+    steps::eq_mp_known(recorder, &equation, premise)
 }
 
 /// UNDISCH: from `p ==> q`, `q` with the hypothesis `p`, in at most four steps. Refused where the conclusion is no implication.
 #[tactic(auto, using(crate::proofs::InferredRules::infers_undisch))]
-pub fn undisch(
-    recorder: &mut Recorder,
-    alloc: Global,
-    logic: &Bool,
-    premise: &Rec,
-) -> Result<Rec, Fault>
+pub fn undisch(recorder: &mut Recorder, logic: &Bool, premise: &Rec) -> Result<Rec, Fault>
     requires logic { HasLogic recorder.old logic.now }
     requires premise { IsMade recorder.old premise.now }
     ensures continues { Continues recorder.old recorder.new result }
@@ -214,5 +190,5 @@ pub fn undisch(
     let Some(sides) = sides_of(recorder, logic, premise, "==>") else {
         return Err(Fault::BadShape);
     };
-    undisch_in_room(recorder, alloc, logic, sides.left, sides.right, premise)
+    undisch_in_room(recorder, logic, sides.left, sides.right, premise)
 }

@@ -13,24 +13,19 @@ use hol_model::Fault;
 use hol_prelude::Bool;
 use hol_prelude::numbers::EXCLUDED_MIDDLE;
 use hol_terms::Term;
-use std::alloc::Global;
 
 /// EXCLUDED_MIDDLE: `p \/ ~p`, in at most three steps. Refused where `p` is not of type `bool`, and then where the theory does not
 /// know a type or a constant of it.
-pub fn excluded_middle(
-    recorder: &mut Recorder,
-    alloc: Global,
-    logic: &Bool,
-    p: &Term,
-) -> Result<Rec, Fault>
+pub fn excluded_middle(recorder: &mut Recorder, logic: &Bool, p: &Term) -> Result<Rec, Fault>
     requires logic { HasLogic recorder.old logic.now }
     ensures continues { Continues recorder.old recorder.new result }
     ensures outcome { AnswersStated (theorem_in result) (image p.now ∷ []) (excluded_middle_outcome recorder.old.theory p.now) }
 {
+    let alloc = recorder.alloc();
     recorder.theory_is_legal();
     pass_formula(recorder, p)?;
     let negated = negate(alloc, p)?;
     let stated = connect(alloc, "\\/", p, &negated)?;
     let terms = for_p(alloc, p)?;
-    instance_of_theorem(recorder, alloc, logic, EXCLUDED_MIDDLE, &terms, &stated)
+    instance_of_theorem(recorder, logic, EXCLUDED_MIDDLE, &terms, &stated)
 }

@@ -17,22 +17,17 @@ use hol_model::Fault;
 use hol_prelude::Bool;
 use hol_prelude::numbers::{CONTR, NOT_ELIM, NOT_INTRO};
 use hol_terms::Term;
-use std::alloc::Global;
 
 /// NOT_INTRO: from `p ==> F`, `~p`, in at most five steps. Refused where the conclusion is no implication of `F`.
 #[tactic(auto, using(crate::proofs::InferredRules::infers_not_intro))]
-pub fn not_intro(
-    recorder: &mut Recorder,
-    alloc: Global,
-    logic: &Bool,
-    premise: &Rec,
-) -> Result<Rec, Fault>
+pub fn not_intro(recorder: &mut Recorder, logic: &Bool, premise: &Rec) -> Result<Rec, Fault>
     requires logic { HasLogic recorder.old logic.now }
     requires premise { IsMade recorder.old premise.now }
     ensures continues { Continues recorder.old recorder.new result }
     ensures outcome { AnswersStated (theorem_in result) (terms_of_theorem premise.now.theorem) (not_intro_outcome premise.now.theorem) }
     ensures inferred { Infers recorder.old.theory rule_not_intro (premise.now.theorem ∷ []) (theorem_in result) }
 {
+    let alloc = recorder.alloc();
     let Some(sides) = sides_of(recorder, logic, premise, "==>") else {
         return Err(Fault::BadShape);
     };
@@ -42,43 +37,33 @@ pub fn not_intro(
     recorder.theory_is_legal();
     let stated = negate(alloc, sides.left)?;
     let terms = for_p(alloc, sides.left)?;
-    by_leading_theorem(recorder, alloc, logic, NOT_INTRO, &terms, &stated, premise)
+    by_leading_theorem(recorder, logic, NOT_INTRO, &terms, &stated, premise)
 }
 
 /// NOT_ELIM: from `~p`, `p ==> F`, in at most five steps. Refused where the conclusion is no negation.
 #[tactic(auto, using(crate::proofs::InferredRules::infers_not_elim))]
-pub fn not_elim(
-    recorder: &mut Recorder,
-    alloc: Global,
-    logic: &Bool,
-    premise: &Rec,
-) -> Result<Rec, Fault>
+pub fn not_elim(recorder: &mut Recorder, logic: &Bool, premise: &Rec) -> Result<Rec, Fault>
     requires logic { HasLogic recorder.old logic.now }
     requires premise { IsMade recorder.old premise.now }
     ensures continues { Continues recorder.old recorder.new result }
     ensures outcome { AnswersStated (theorem_in result) (terms_of_theorem premise.now.theorem) (not_elim_outcome premise.now.theorem) }
     ensures inferred { Infers recorder.old.theory rule_not_elim (premise.now.theorem ∷ []) (theorem_in result) }
 {
+    let alloc = recorder.alloc();
     let Some(part) = negated_of(recorder, logic, premise) else {
         return Err(Fault::BadShape);
     };
     let falsity = falsity(alloc)?;
     let stated = connect(alloc, "==>", part, &falsity)?;
     let terms = for_p(alloc, part)?;
-    by_leading_theorem(recorder, alloc, logic, NOT_ELIM, &terms, &stated, premise)
+    by_leading_theorem(recorder, logic, NOT_ELIM, &terms, &stated, premise)
 }
 
 /// CONTR: from `F`, `p`, in at most five steps. Refused where the conclusion is not `F`, then where `p` is not of type `bool`, and
 /// then where the theory does not know a type or a constant of it. Walks `p`; where a proof shows that it is a formula that
 /// the theory knows, `contr_known`.
 #[tactic(auto, using(crate::proofs::InferredRules::infers_contr))]
-pub fn contr(
-    recorder: &mut Recorder,
-    alloc: Global,
-    logic: &Bool,
-    p: &Term,
-    premise: &Rec,
-) -> Result<Rec, Fault>
+pub fn contr(recorder: &mut Recorder, logic: &Bool, p: &Term, premise: &Rec) -> Result<Rec, Fault>
     requires logic { HasLogic recorder.old logic.now }
     requires premise { IsMade recorder.old premise.now }
     ensures continues { Continues recorder.old recorder.new result }
@@ -91,7 +76,7 @@ pub fn contr(
         return Err(Fault::BadShape);
     }
     pass_formula(recorder, p)?;
-    contr_known(recorder, alloc, logic, p, premise)
+    contr_known(recorder, logic, p, premise)
 }
 
 /// CONTR of a formula that the theory knows, which is not walked for it, in at most five steps. Refused where the conclusion is not
@@ -99,7 +84,6 @@ pub fn contr(
 #[tactic(auto, using(crate::proofs::InferredRules::infers_contr))]
 pub fn contr_known(
     recorder: &mut Recorder,
-    alloc: Global,
     logic: &Bool,
     p: &Term,
     premise: &Rec,
@@ -111,11 +95,12 @@ pub fn contr_known(
     ensures outcome { AnswersStated (theorem_in result) (image p.now ∷ terms_of_theorem premise.now.theorem) (contr_outcome recorder.old.theory p.now premise.now.theorem) }
     ensures inferred { Infers recorder.old.theory (rule_contr p.now) (premise.now.theorem ∷ []) (theorem_in result) }
 {
+    let alloc = recorder.alloc();
     let _type = p.ty();
     let conclusion = conclusion_of(recorder, premise);
     if !is_named(conclusion, "F") {
         return Err(Fault::BadShape);
     }
     let terms = for_p(alloc, p)?;
-    by_leading_theorem(recorder, alloc, logic, CONTR, &terms, p, premise)
+    by_leading_theorem(recorder, logic, CONTR, &terms, p, premise)
 }

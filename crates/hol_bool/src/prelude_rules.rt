@@ -21,14 +21,12 @@ use hol_journal::{Rec, Recorder};
 use hol_model::Fault;
 use hol_prelude::{Bool, theorem_of};
 use hol_terms::Term;
-use std::alloc::Global;
 
 /// From the hypothesis of a theorem of the prelude at these terms, its conclusion there with these names, in three steps,
 /// and two more where a variable is bound in it. A proof shows that the theorem leads from the premise to what is stated:
 /// neither is compared with the theorem at the terms.
 pub(crate) fn by_leading_theorem(
     recorder: &mut Recorder,
-    alloc: Global,
     logic: &Bool,
     number: usize,
     terms: &[(Term, Term)],
@@ -45,15 +43,14 @@ pub(crate) fn by_leading_theorem(
     ensures derives { TheoremDerives recorder.old.theory number terms.now stated.now premise.now.theorem result }
 {
     let lemma = theorem_of(recorder, logic, number);
-    let answer = by_fitting_lemma(recorder, alloc, &[], terms, lemma, premise)?;
-    named_same(recorder, alloc, stated, &answer)
+    let answer = by_fitting_lemma(recorder, &[], terms, lemma, premise)?;
+    named_same(recorder, stated, &answer)
 }
 
 /// A theorem of the prelude at these terms, whose conclusion there has these names, in one step, and two more where a variable is
 /// bound in it. Its hypothesis is kept, where it has one. A proof shows what is stated, so that nothing is compared.
 pub(crate) fn instance_of_theorem(
     recorder: &mut Recorder,
-    alloc: Global,
     logic: &Bool,
     number: usize,
     terms: &[(Term, Term)],
@@ -70,8 +67,8 @@ pub(crate) fn instance_of_theorem(
     ensures says { (room : Room) → Says recorder.old.theory number terms.now room (image stated.now) → DerivesIf room result [] (image stated.now) }
 {
     let lemma = theorem_of(recorder, logic, number);
-    let answer = instance_known(recorder, alloc, &[], terms, lemma)?;
-    named_same(recorder, alloc, stated, &answer)
+    let answer = instance_known(recorder, &[], terms, lemma)?;
+    named_same(recorder, stated, &answer)
 }
 
 /// The sides of a conclusion with the binary connective of this name.

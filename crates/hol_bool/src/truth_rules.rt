@@ -15,43 +15,34 @@ use hol_journal::{Rec, Recorder};
 use hol_model::Fault;
 use hol_prelude::Bool;
 use hol_prelude::numbers::{EQT_ELIM, EQT_INTRO};
-use std::alloc::Global;
 
 /// EQT_INTRO: from `p`, `p <=> T`, in at most five steps.
 #[tactic(auto, using(crate::proofs::InferredRules::infers_eqt_intro))]
-pub fn eqt_intro(
-    recorder: &mut Recorder,
-    alloc: Global,
-    logic: &Bool,
-    premise: &Rec,
-) -> Result<Rec, Fault>
+pub fn eqt_intro(recorder: &mut Recorder, logic: &Bool, premise: &Rec) -> Result<Rec, Fault>
     requires logic { HasLogic recorder.old logic.now }
     requires premise { IsMade recorder.old premise.now }
     ensures continues { Continues recorder.old recorder.new result }
     ensures outcome { AnswersStated (theorem_in result) (terms_of_theorem premise.now.theorem) (eqt_intro_outcome premise.now.theorem) }
     ensures inferred { Infers recorder.old.theory rule_eqt_intro (premise.now.theorem ∷ []) (theorem_in result) }
 {
+    let alloc = recorder.alloc();
     let conclusion = conclusion_of(recorder, premise);
     let truth = truth(alloc)?;
     let stated = equivalence(alloc, conclusion, &truth)?;
     let terms = for_p(alloc, conclusion)?;
-    by_leading_theorem(recorder, alloc, logic, EQT_INTRO, &terms, &stated, premise)
+    by_leading_theorem(recorder, logic, EQT_INTRO, &terms, &stated, premise)
 }
 
 /// EQT_ELIM: from `p <=> T`, `p`, in at most five steps. Refused where the conclusion is no equation with `T` on its right.
 #[tactic(auto, using(crate::proofs::InferredRules::infers_eqt_elim))]
-pub fn eqt_elim(
-    recorder: &mut Recorder,
-    alloc: Global,
-    logic: &Bool,
-    premise: &Rec,
-) -> Result<Rec, Fault>
+pub fn eqt_elim(recorder: &mut Recorder, logic: &Bool, premise: &Rec) -> Result<Rec, Fault>
     requires logic { HasLogic recorder.old logic.now }
     requires premise { IsMade recorder.old premise.now }
     ensures continues { Continues recorder.old recorder.new result }
     ensures outcome { AnswersStated (theorem_in result) (terms_of_theorem premise.now.theorem) (eqt_elim_outcome premise.now.theorem) }
     ensures inferred { Infers recorder.old.theory rule_eqt_elim (premise.now.theorem ∷ []) (theorem_in result) }
 {
+    let alloc = recorder.alloc();
     let conclusion = conclusion_of(recorder, premise);
     let Some(parts) = equation_parts(conclusion) else {
         return Err(Fault::BadShape);
@@ -60,7 +51,5 @@ pub fn eqt_elim(
         return Err(Fault::BadShape);
     }
     let terms = for_p(alloc, parts.left)?;
-    by_leading_theorem(
-        recorder, alloc, logic, EQT_ELIM, &terms, parts.left, premise,
-    )
+    by_leading_theorem(recorder, logic, EQT_ELIM, &terms, parts.left, premise)
 }

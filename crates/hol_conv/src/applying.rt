@@ -23,7 +23,6 @@ use hol_rewrite::choice_of;
 use hol_tactic_exprs::{Conv, Fuel, Prefix};
 use hol_terms::Term;
 use hol_theorem_library::Library;
-use std::alloc::Global;
 
 /// What the conversion proves of a known term, an equation of it: an answer that it may have, with the steps that it leaves
 /// (hol_model, Conversions; HOL Light's equal.ml). A host's conversions may be called, and what they answer is replayed.
@@ -38,7 +37,6 @@ use std::alloc::Global;
 /// Memory.
 pub fn apply<H: Converters>(
     library: &mut Library,
-    alloc: Global,
     hosts: &H,
     conv: &Conv,
     t: &Term,
@@ -49,15 +47,15 @@ pub fn apply<H: Converters>(
     ensures outcome { ConvertsOver library.old (H.conversions hosts.now) 0 fuel.old.left (conversion_of conv.now) t.now result fuel.new.left }
     ensures makes { Makes library.old library.new result }
 {
+    let alloc = library.recorder.alloc();
     let mut prepared = Vec::new(alloc);
-    prepare(library, alloc, conv, &mut prepared);
-    apply_prepared(library, alloc, hosts, &prepared, conv, t, fuel)
+    prepare(library, conv, &mut prepared);
+    apply_prepared(library, hosts, &prepared, conv, t, fuel)
 }
 
 // The same, where the rules of some names are there.
 fn apply_prepared<H: Converters>(
     library: &mut Library,
-    alloc: Global,
     hosts: &H,
     prepared: &[NamedRules],
     conv: &Conv,
@@ -71,7 +69,7 @@ fn apply_prepared<H: Converters>(
     ensures makes { Makes library.old library.new result }
 {
     let leaves = OverHost { hosts, prepared };
-    convert(library, alloc, &leaves, conv, t, 0, fuel)
+    convert(library, &leaves, conv, t, 0, fuel)
 }
 
 /// TOP_DEPTH_CONV by these rules, of a known term (HOL Light's simp.ml, PURE_REWRITE_CONV): each try of the rules at a term
@@ -82,7 +80,6 @@ fn apply_prepared<H: Converters>(
 /// where as many descents are open as the limit allows, or a theorem on the way passes a limit; and Memory.
 pub fn rewrite<H: Converters>(
     library: &mut Library,
-    alloc: Global,
     hosts: &H,
     rules: &[Rec],
     t: &Term,
@@ -95,6 +92,7 @@ pub fn rewrite<H: Converters>(
     ensures outcome { ConvertsOver library.old (H.conversions hosts.now) 0 fuel.old.left (top_depth_conv (conversions.rules_conv (theorems rules.now))) t.now result fuel.new.left }
     ensures makes { Makes library.old library.new result }
 {
+    let alloc = library.recorder.alloc();
     let choice = choice_of(alloc, rules)?;
     // Each conversion without parts stands for the rules.
     let everywhere = Conv::prefixed(alloc, Prefix::TopDepth, Conv::All)?;
@@ -103,5 +101,5 @@ pub fn rewrite<H: Converters>(
         rules,
         choice: &choice,
     };
-    convert(library, alloc, &leaves, &everywhere, t, 0, fuel)
+    convert(library, &leaves, &everywhere, t, 0, fuel)
 }

@@ -41,7 +41,7 @@ impl<'a, H: Converters> Leaves for ByRules<'a, H> {
         if !fuel.spend() {
             return Err(Fault::StepLimit);
         }
-        rules_conv(library, alloc, self.rules, self.choice, t)
+        rules_conv(library, self.rules, self.choice, t)
     }
 
     ghost stays_ready = { λ leaves old new continued ready. stay-ready leaves.rules.now leaves.choice.now old new continued ready };

@@ -65,7 +65,7 @@ pub(crate) fn same(library: &Library, t: &Term, fuel: &mut Fuel) -> Result<Conve
 }
 
 // The theorems, joined from the right to the last. They meet, so nothing is compared.
-fn joined(library: &mut Library, alloc: Global, theorems: Vec<Rec>, last: Rec) -> Result<Rec, Fault>
+fn joined(library: &mut Library, theorems: Vec<Rec>, last: Rec) -> Result<Rec, Fault>
     requires library { IsLibrary library.old }
     requires theorems { All (IsMade library.old.recorder) theorems.items }
     requires last { IsMade library.old.recorder last }
@@ -76,7 +76,7 @@ fn joined(library: &mut Library, alloc: Global, theorems: Vec<Rec>, last: Rec) -
     let mut theorems = theorems;
     let mut last = last;
     while let Some(theorem) = theorems.pop() {
-        last = trans_known(library, alloc, &theorem, &last)?;
+        last = trans_known(library, &theorem, &last)?;
     }
     Ok(last)
 }
@@ -84,7 +84,6 @@ fn joined(library: &mut Library, alloc: Global, theorems: Vec<Rec>, last: Rec) -
 /// Ends a chain from a term behind a refusal: by ALL_CONV where it is caught.
 pub(crate) fn finish(
     library: &mut Library,
-    alloc: Global,
     t: &Term,
     chain: Chain,
     fault: Fault,
@@ -108,8 +107,8 @@ pub(crate) fn finish(
         ..
     } = chain;
     let last = same(library, &current, fuel);
-    match theorem(library, alloc, &current, last) {
-        Ok(last) => as_answer(joined(library, alloc, theorems, last)),
+    match theorem(library, &current, last) {
+        Ok(last) => as_answer(joined(library, theorems, last)),
         Err(fault) => Err(fault),
     }
 }
@@ -150,7 +149,7 @@ pub(crate) fn changed(t: &Term, answer: Result<Converted, Fault>) -> Result<Conv
 }
 
 // Makes that the current term equals itself, where that stands behind the theorems.
-fn settled(library: &mut Library, alloc: Global, chain: Chain) -> Result<Chain, Fault>
+fn settled(library: &mut Library, chain: Chain) -> Result<Chain, Fault>
     requires library { IsLibrary library.old }
     requires chain { IsChain library.old chain }
     ensures library { IsLibrary library.new }
@@ -167,7 +166,7 @@ fn settled(library: &mut Library, alloc: Global, chain: Chain) -> Result<Chain, 
         current,
         ..
     } = chain;
-    let same = refl_known(library, alloc, &current)?;
+    let same = refl_known(library, &current)?;
     match theorems.push(same) {
         Ok(()) => Ok(Chain {
             theorems,
@@ -179,7 +178,7 @@ fn settled(library: &mut Library, alloc: Global, chain: Chain) -> Result<Chain, 
 }
 
 // Puts an equation of the current term behind theorems that are made.
-fn pushed(library: &Library, alloc: Global, chain: Chain, made: Rec) -> Result<Chain, Fault>
+fn pushed(library: &Library, chain: Chain, made: Rec) -> Result<Chain, Fault>
     requires chain { IsChain library.now chain }
     requires settled { chain.is_same ≡ false }
     requires made { IsMade library.now.recorder made }
@@ -189,6 +188,7 @@ fn pushed(library: &Library, alloc: Global, chain: Chain, made: Rec) -> Result<C
     ensures begun { IfOk result (λ new. (t : NamedTerm) → BeginsAt t new) }
     ensures err { IfErr result (λ fault. fault ≡ Memory) }
 {
+    let alloc = library.recorder.alloc();
     let current = right_side(library, &made).copy(alloc)?;
     let Chain { mut theorems, .. } = chain;
     match theorems.push(made) {
@@ -202,12 +202,7 @@ fn pushed(library: &Library, alloc: Global, chain: Chain, made: Rec) -> Result<C
 }
 
 // Puts an answer on the current term behind the theorems.
-fn extended(
-    library: &mut Library,
-    alloc: Global,
-    chain: Chain,
-    answer: Converted,
-) -> Result<Chain, Fault>
+fn extended(library: &mut Library, chain: Chain, answer: Converted) -> Result<Chain, Fault>
     requires library { IsLibrary library.old }
     requires chain { IsChain library.old chain }
     requires answer { IsAnswerOf library.old chain.current answer }
@@ -219,14 +214,14 @@ fn extended(
     ensures begun { IfOk result (λ new. (t : NamedTerm) → BeginsAt t chain → BeginsAt t new) }
     ensures err { IfErr result (λ fault. fault ≡ Memory) }
 {
-    let chain = settled(library, alloc, chain)?;
+    let chain = settled(library, chain)?;
     match answer {
         Converted::Same => Ok(Chain {
             theorems: chain.theorems,
             current: chain.current,
             is_same: true,
         }),
-        Converted::Changed(made) => pushed(library, alloc, chain, made),
+        Converted::Changed(made) => pushed(library, chain, made),
     }
 }
 
@@ -240,7 +235,6 @@ pub(crate) enum Linked {
 /// Puts what was answered on the current term behind the theorems of a chain from a term, or ends it.
 pub(crate) fn link(
     library: &mut Library,
-    alloc: Global,
     t: &Term,
     chain: Chain,
     answer: Result<Converted, Fault>,
@@ -258,9 +252,9 @@ pub(crate) fn link(
 {
     let answer = match answer {
         Ok(answer) => answer,
-        Err(fault) => return Linked::Ends(finish(library, alloc, t, chain, fault, fuel)),
+        Err(fault) => return Linked::Ends(finish(library, t, chain, fault, fuel)),
     };
-    match extended(library, alloc, chain, answer) {
+    match extended(library, chain, answer) {
         Ok(chain) => Linked::GoesOn(chain),
         Err(fault) => Linked::Ends(Err(fault)),
     }

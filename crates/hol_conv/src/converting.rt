@@ -19,7 +19,6 @@ use hol_model::{DESCENTS_LIMIT, Fault};
 use hol_tactic_exprs::{Conv, Fuel, Prefix, is_caught};
 use hol_terms::{Parts, Term};
 use hol_theorem_library::Library;
-use std::alloc::Global;
 
 /// Tries a conversion on a known term, where so many descents are open: the answer is one that it may have, with the steps that
 /// it leaves (hol_model, Conversions). Refused: what a conversion without parts is refused for, StepLimit where no step is left;
@@ -28,7 +27,6 @@ use std::alloc::Global;
 /// TooLarge and Memory.
 pub fn convert<L: Leaves>(
     library: &mut Library,
-    alloc: Global,
     leaves: &L,
     conv: &Conv,
     t: &Term,
@@ -39,14 +37,13 @@ pub fn convert<L: Leaves>(
     ensures converts { ConvertsOver library.old (L.hosts leaves.now) depth fuel.old.left (stands_for (L.means leaves.now) conv.now) t.now result fuel.new.left }
     ensures makes { Makes library.old library.new result }
 {
-    let answer = converted(library, alloc, leaves, conv, t, depth, fuel);
-    theorem(library, alloc, t, answer)
+    let answer = converted(library, leaves, conv, t, depth, fuel);
+    theorem(library, t, answer)
 }
 
 // A conversion without parts: what it answers is a theorem.
 fn leaf<L: Leaves>(
     library: &mut Library,
-    alloc: Global,
     leaves: &L,
     conv: &Conv,
     t: &Term,
@@ -57,6 +54,7 @@ fn leaf<L: Leaves>(
     ensures converts { (depth : ℕ) → AnswersOver library.old (L.hosts leaves.now) depth fuel.old.left (stands_for (L.means leaves.now) conv.now) t.now result fuel.new.left }
     ensures makes { MakesAnswer library.old library.new t.now result }
 {
+    let alloc = library.recorder.alloc();
     as_answer(leaves.try_leaf(library, alloc, conv, t, fuel))
 }
 
@@ -64,7 +62,6 @@ fn leaf<L: Leaves>(
 #[cycle(converted)]
 fn converted<L: Leaves>(
     library: &mut Library,
-    alloc: Global,
     leaves: &L,
     conv: &Conv,
     t: &Term,
@@ -76,34 +73,26 @@ fn converted<L: Leaves>(
     ensures makes { MakesAnswer library.old library.new t.now result }
 {
     match conv {
-        Conv::All => leaf(library, alloc, leaves, conv, t, fuel),
-        Conv::No => leaf(library, alloc, leaves, conv, t, fuel),
-        Conv::Beta => leaf(library, alloc, leaves, conv, t, fuel),
-        Conv::Rewr(_) => leaf(library, alloc, leaves, conv, t, fuel),
-        Conv::Host(_) => leaf(library, alloc, leaves, conv, t, fuel),
-        Conv::Then(first, others) => {
-            thenc(library, alloc, leaves, first, others, t, depth, fuel)
-        }
-        Conv::OrElse(first, others) => {
-            orelsec(library, alloc, leaves, first, others, t, depth, fuel)
-        }
+        Conv::All => leaf(library, leaves, conv, t, fuel),
+        Conv::No => leaf(library, leaves, conv, t, fuel),
+        Conv::Beta => leaf(library, leaves, conv, t, fuel),
+        Conv::Rewr(_) => leaf(library, leaves, conv, t, fuel),
+        Conv::Host(_) => leaf(library, leaves, conv, t, fuel),
+        Conv::Then(first, others) => { thenc(library, leaves, first, others, t, depth, fuel) }
+        Conv::OrElse(first, others) => { orelsec(library, leaves, first, others, t, depth, fuel) }
         Conv::Prefixed(prefix, part) => match *prefix {
-            Prefix::Repeat => repeatc(library, alloc, leaves, part, t, depth, fuel),
+            Prefix::Repeat => repeatc(library, leaves, part, t, depth, fuel),
             Prefix::Try => {
-                let made = converted(library, alloc, leaves, part, t, depth, fuel);
+                let made = converted(library, leaves, part, t, depth, fuel);
                 or_same(library, t, made, fuel)
             }
-            Prefix::Rand => rand_conv(library, alloc, leaves, part, t, depth, fuel),
-            Prefix::Rator => rator_conv(library, alloc, leaves, part, t, depth, fuel),
-            Prefix::Abs => abs_conv(library, alloc, leaves, part, t, depth, fuel),
-            Prefix::Sub => sub_conv(library, alloc, leaves, part, t, depth, fuel),
-            Prefix::Depth => depth_conv(library, alloc, leaves, conv, part, t, depth, fuel),
-            Prefix::OnceDepth => {
-                once_depth_conv(library, alloc, leaves, conv, part, t, depth, fuel)
-            }
-            Prefix::TopDepth => {
-                top_depth_conv(library, alloc, leaves, conv, part, t, depth, fuel)
-            }
+            Prefix::Rand => rand_conv(library, leaves, part, t, depth, fuel),
+            Prefix::Rator => rator_conv(library, leaves, part, t, depth, fuel),
+            Prefix::Abs => abs_conv(library, leaves, part, t, depth, fuel),
+            Prefix::Sub => sub_conv(library, leaves, part, t, depth, fuel),
+            Prefix::Depth => depth_conv(library, leaves, conv, part, t, depth, fuel),
+            Prefix::OnceDepth => { once_depth_conv(library, leaves, conv, part, t, depth, fuel) }
+            Prefix::TopDepth => { top_depth_conv(library, leaves, conv, part, t, depth, fuel) }
         },
     }
 }
@@ -112,7 +101,6 @@ fn converted<L: Leaves>(
 #[cycle(converted)]
 fn thenc<L: Leaves>(
     library: &mut Library,
-    alloc: Global,
     leaves: &L,
     first: &Conv,
     others: &[Conv],
@@ -124,11 +112,11 @@ fn thenc<L: Leaves>(
     ensures converts { AnswersOver library.old (L.hosts leaves.now) depth fuel.old.left (thenc_of (L.means leaves.now) first.now others.now) t.now result fuel.new.left }
     ensures makes { MakesAnswer library.old library.new t.now result }
 {
-    let mut made = converted(library, alloc, leaves, first, t, depth, fuel)?;
+    let mut made = converted(library, leaves, first, t, depth, fuel)?;
     for other in others {
         let right = right_of(library, t, &made);
-        let next = converted(library, alloc, leaves, other, right, depth, fuel);
-        made = then(library, alloc, t, &made, right, next)?;
+        let next = converted(library, leaves, other, right, depth, fuel);
+        made = then(library, t, &made, right, next)?;
     }
     Ok(made)
 }
@@ -137,7 +125,6 @@ fn thenc<L: Leaves>(
 #[cycle(converted)]
 fn orelsec<L: Leaves>(
     library: &mut Library,
-    alloc: Global,
     leaves: &L,
     first: &Conv,
     others: &[Conv],
@@ -149,7 +136,7 @@ fn orelsec<L: Leaves>(
     ensures converts { AnswersOver library.old (L.hosts leaves.now) depth fuel.old.left (orelsec_of (L.means leaves.now) first.now others.now) t.now result fuel.new.left }
     ensures makes { MakesAnswer library.old library.new t.now result }
 {
-    let mut fault = match converted(library, alloc, leaves, first, t, depth, fuel) {
+    let mut fault = match converted(library, leaves, first, t, depth, fuel) {
         Ok(made) => return Ok(made),
         Err(fault) => fault,
     };
@@ -157,7 +144,7 @@ fn orelsec<L: Leaves>(
         if !is_caught(&fault) {
             return Err(fault);
         }
-        match converted(library, alloc, leaves, other, t, depth, fuel) {
+        match converted(library, leaves, other, t, depth, fuel) {
             Ok(made) => return Ok(made),
             Err(next) => fault = next,
         }
@@ -169,7 +156,6 @@ fn orelsec<L: Leaves>(
 #[cycle(converted)]
 fn repeatc<L: Leaves>(
     library: &mut Library,
-    alloc: Global,
     leaves: &L,
     conv: &Conv,
     t: &Term,
@@ -181,10 +167,11 @@ fn repeatc<L: Leaves>(
     ensures last { IsFinal (answered library.old.recorder.theory t.now result) }
     ensures makes { MakesAnswer library.old library.new t.now result }
 {
+    let alloc = library.recorder.alloc();
     let mut chain = begin(alloc, t)?;
     loop {
-        let made = converted(library, alloc, leaves, conv, &chain.current, depth, fuel);
-        chain = match link(library, alloc, t, chain, made, fuel) {
+        let made = converted(library, leaves, conv, &chain.current, depth, fuel);
+        chain = match link(library, t, chain, made, fuel) {
             Linked::GoesOn(chain) => chain,
             Linked::Ends(result) => return result,
         };
@@ -195,7 +182,6 @@ fn repeatc<L: Leaves>(
 #[cycle(converted)]
 fn rand_conv<L: Leaves>(
     library: &mut Library,
-    alloc: Global,
     leaves: &L,
     conv: &Conv,
     t: &Term,
@@ -207,15 +193,14 @@ fn rand_conv<L: Leaves>(
     ensures makes { MakesAnswer library.old library.new t.now result }
 {
     let (function, argument) = combination(t, depth)?;
-    let part = converted(library, alloc, leaves, conv, argument, depth + 1, fuel);
-    of_argument(library, alloc, t, function, argument, part)
+    let part = converted(library, leaves, conv, argument, depth + 1, fuel);
+    of_argument(library, t, function, argument, part)
 }
 
 // RATOR_CONV.
 #[cycle(converted)]
 fn rator_conv<L: Leaves>(
     library: &mut Library,
-    alloc: Global,
     leaves: &L,
     conv: &Conv,
     t: &Term,
@@ -227,15 +212,14 @@ fn rator_conv<L: Leaves>(
     ensures makes { MakesAnswer library.old library.new t.now result }
 {
     let (function, argument) = combination(t, depth)?;
-    let part = converted(library, alloc, leaves, conv, function, depth + 1, fuel);
-    of_function(library, alloc, t, function, argument, part)
+    let part = converted(library, leaves, conv, function, depth + 1, fuel);
+    of_function(library, t, function, argument, part)
 }
 
 // ABS_CONV.
 #[cycle(converted)]
 fn abs_conv<L: Leaves>(
     library: &mut Library,
-    alloc: Global,
     leaves: &L,
     conv: &Conv,
     t: &Term,
@@ -247,15 +231,14 @@ fn abs_conv<L: Leaves>(
     ensures makes { MakesAnswer library.old library.new t.now result }
 {
     let (binder, body) = abstraction(t, depth)?;
-    let part = converted(library, alloc, leaves, conv, body, depth + 1, fuel);
-    of_body(library, alloc, t, binder, part)
+    let part = converted(library, leaves, conv, body, depth + 1, fuel);
+    of_body(library, t, binder, part)
 }
 
 // SUB_CONV.
 #[cycle(converted)]
 fn sub_conv<L: Leaves>(
     library: &mut Library,
-    alloc: Global,
     leaves: &L,
     conv: &Conv,
     t: &Term,
@@ -271,11 +254,11 @@ fn sub_conv<L: Leaves>(
             if DESCENTS_LIMIT <= depth {
                 return Err(Fault::TooLarge);
             }
-            let first = converted(library, alloc, leaves, conv, function, depth + 1, fuel)?;
-            let second = converted(library, alloc, leaves, conv, argument, depth + 1, fuel);
-            of_parts(library, alloc, t, function, argument, first, second)
+            let first = converted(library, leaves, conv, function, depth + 1, fuel)?;
+            let second = converted(library, leaves, conv, argument, depth + 1, fuel);
+            of_parts(library, t, function, argument, first, second)
         }
-        Parts::Abstraction(_, _, _) => abs_conv(library, alloc, leaves, conv, t, depth, fuel),
+        Parts::Abstraction(_, _, _) => abs_conv(library, leaves, conv, t, depth, fuel),
         Parts::Variable(_, _) => same(library, t, fuel),
         Parts::Constant(_, _) => same(library, t, fuel),
     }
@@ -285,7 +268,6 @@ fn sub_conv<L: Leaves>(
 #[cycle(converted)]
 fn depth_conv<L: Leaves>(
     library: &mut Library,
-    alloc: Global,
     leaves: &L,
     whole: &Conv,
     part: &Conv,
@@ -298,17 +280,16 @@ fn depth_conv<L: Leaves>(
     ensures converts { AnswersOver library.old (L.hosts leaves.now) depth fuel.old.left (stands_for (L.means leaves.now) whole.now) t.now result fuel.new.left }
     ensures makes { MakesAnswer library.old library.new t.now result }
 {
-    let below = sub_conv(library, alloc, leaves, whole, t, depth, fuel)?;
+    let below = sub_conv(library, leaves, whole, t, depth, fuel)?;
     let right = right_of(library, t, &below);
-    let here = repeatc(library, alloc, leaves, part, right, depth, fuel);
-    then(library, alloc, t, &below, right, here)
+    let here = repeatc(library, leaves, part, right, depth, fuel);
+    then(library, t, &below, right, here)
 }
 
 // ONCE_DEPTH_CONV, the whole of a part.
 #[cycle(converted)]
 fn once_depth_conv<L: Leaves>(
     library: &mut Library,
-    alloc: Global,
     leaves: &L,
     whole: &Conv,
     part: &Conv,
@@ -321,13 +302,13 @@ fn once_depth_conv<L: Leaves>(
     ensures converts { AnswersOver library.old (L.hosts leaves.now) depth fuel.old.left (stands_for (L.means leaves.now) whole.now) t.now result fuel.new.left }
     ensures makes { MakesAnswer library.old library.new t.now result }
 {
-    match converted(library, alloc, leaves, part, t, depth, fuel) {
+    match converted(library, leaves, part, t, depth, fuel) {
         Ok(made) => Ok(made),
         Err(fault) => {
             if !is_caught(&fault) {
                 return Err(fault);
             }
-            let made = sub_conv(library, alloc, leaves, whole, t, depth, fuel);
+            let made = sub_conv(library, leaves, whole, t, depth, fuel);
             or_same(library, t, made, fuel)
         }
     }
@@ -337,7 +318,6 @@ fn once_depth_conv<L: Leaves>(
 #[cycle(converted)]
 fn top_depth_conv<L: Leaves>(
     library: &mut Library,
-    alloc: Global,
     leaves: &L,
     whole: &Conv,
     part: &Conv,
@@ -350,21 +330,22 @@ fn top_depth_conv<L: Leaves>(
     ensures converts { AnswersOver library.old (L.hosts leaves.now) depth fuel.old.left (stands_for (L.means leaves.now) whole.now) t.now result fuel.new.left }
     ensures makes { MakesAnswer library.old library.new t.now result }
 {
+    let alloc = library.recorder.alloc();
     let mut chain = begin(alloc, t)?;
     loop {
-        let here = repeatc(library, alloc, leaves, part, &chain.current, depth, fuel);
-        chain = match link(library, alloc, t, chain, here, fuel) {
+        let here = repeatc(library, leaves, part, &chain.current, depth, fuel);
+        chain = match link(library, t, chain, here, fuel) {
             Linked::GoesOn(chain) => chain,
             Linked::Ends(result) => return result,
         };
-        let below = sub_conv(library, alloc, leaves, whole, &chain.current, depth, fuel);
+        let below = sub_conv(library, leaves, whole, &chain.current, depth, fuel);
         let below = changed(&chain.current, below);
-        chain = match link(library, alloc, t, chain, below, fuel) {
+        chain = match link(library, t, chain, below, fuel) {
             Linked::GoesOn(chain) => chain,
             Linked::Ends(result) => return result,
         };
-        let again = converted(library, alloc, leaves, part, &chain.current, depth, fuel);
-        chain = match link(library, alloc, t, chain, again, fuel) {
+        let again = converted(library, leaves, part, &chain.current, depth, fuel);
+        chain = match link(library, t, chain, again, fuel) {
             Linked::GoesOn(chain) => chain,
             Linked::Ends(result) => return result,
         };

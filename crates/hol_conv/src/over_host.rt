@@ -47,7 +47,7 @@ impl<'a, H: Converters> Leaves for OverHost<'a, H> {
         if !fuel.spend() {
             return Err(Fault::StepLimit);
         }
-        one_step(library, alloc, self.hosts, self.prepared, leaf, t)
+        one_step(library, self.hosts, self.prepared, leaf, t)
     }
 
     ghost stays_ready = { λ leaves old new continued ready. stay-prepared leaves.prepared.now old new continued ready };
@@ -56,7 +56,6 @@ impl<'a, H: Converters> Leaves for OverHost<'a, H> {
 // REWR_CONV, by the rules that are there, or those made now.
 fn rewritten(
     library: &mut Library,
-    alloc: Global,
     prepared: &[NamedRules],
     name: &str,
     t: &Term,
@@ -68,15 +67,14 @@ fn rewritten(
     ensures rewrites { RewritesByName (store_in library.old) name.now t.now (theorem_in result) }
 {
     match prepared_for(prepared, name) {
-        Some(named) => prepared_rewr_conv(library, alloc, named, t),
-        None => rewr_conv(library, alloc, name, t),
+        Some(named) => prepared_rewr_conv(library, named, t),
+        None => rewr_conv(library, name, t),
     }
 }
 
 // What a conversion without parts answers for a step.
 fn one_step<H: Converters>(
     library: &mut Library,
-    alloc: Global,
     hosts: &H,
     prepared: &[NamedRules],
     leaf: &Conv,
@@ -90,11 +88,11 @@ fn one_step<H: Converters>(
     ensures makes { Makes library.old library.new result }
 {
     match leaf {
-        Conv::All => refl_known(library, alloc, t),
+        Conv::All => refl_known(library, t),
         Conv::No => Err(Fault::ConvFails),
-        Conv::Beta => beta_conv(library, alloc, t),
-        Conv::Rewr(name) => rewritten(library, alloc, prepared, name, t),
-        Conv::Host(name) => host_conv(library, alloc, hosts, name, t),
+        Conv::Beta => beta_conv(library, t),
+        Conv::Rewr(name) => rewritten(library, prepared, name, t),
+        Conv::Host(name) => host_conv(library, hosts, name, t),
         Conv::Then(_, _) | Conv::OrElse(_, _) | Conv::Prefixed(_, _) => unreachable!(),
     }
 }

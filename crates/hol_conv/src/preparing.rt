@@ -8,7 +8,6 @@ ghost use Rattle.hol_conv.specs.Prepares.{Prepares};
 use hol_conv_rules::{NamedRules, rules_named};
 use hol_tactic_exprs::Conv;
 use hol_theorem_library::Library;
-use std::alloc::Global;
 
 // So many names have their rules made before; those of others are made at each place.
 const PREPARED_LIMIT: usize = 64;
@@ -26,7 +25,7 @@ pub(crate) fn prepared_for<'a>(prepared: &'a [NamedRules], name: &str) -> Option
 }
 
 // Puts the rules of a name behind the others, where they are not there and can be made.
-fn prepare_name(library: &mut Library, alloc: Global, name: &str, prepared: &mut Vec<NamedRules>)
+fn prepare_name(library: &mut Library, name: &str, prepared: &mut Vec<NamedRules>)
     requires library { IsLibrary library.old }
     requires prepared { ArePrepared library.old prepared.old.items }
     ensures prepares { Prepares library.old library.new prepared.new.items }
@@ -34,7 +33,7 @@ fn prepare_name(library: &mut Library, alloc: Global, name: &str, prepared: &mut
     if PREPARED_LIMIT <= prepared.len() || prepared_for(prepared, name).is_some() {
         return;
     }
-    match rules_named(library, alloc, name) {
+    match rules_named(library, name) {
         Ok(named) => {
             let _room = prepared.push(named);
         }
@@ -44,35 +43,30 @@ fn prepare_name(library: &mut Library, alloc: Global, name: &str, prepared: &mut
 
 /// Puts the rules of the names in the conversion behind the others, where they can be made: others are made at each place.
 #[cycle(prepare)]
-pub(crate) fn prepare(
-    library: &mut Library,
-    alloc: Global,
-    conv: &Conv,
-    prepared: &mut Vec<NamedRules>,
-)
+pub(crate) fn prepare(library: &mut Library, conv: &Conv, prepared: &mut Vec<NamedRules>)
     requires library { IsLibrary library.old }
     requires prepared { ArePrepared library.old prepared.old.items }
     ensures prepares { Prepares library.old library.new prepared.new.items }
 {
     match conv {
         Conv::All | Conv::No | Conv::Beta | Conv::Host(_) => {}
-        Conv::Rewr(name) => prepare_name(library, alloc, name, prepared),
+        Conv::Rewr(name) => prepare_name(library, name, prepared),
         Conv::Then(first, others) | Conv::OrElse(first, others) => {
-            prepare(library, alloc, first, prepared);
-            prepare_all(library, alloc, others, prepared);
+            prepare(library, first, prepared);
+            prepare_all(library, others, prepared);
         }
-        Conv::Prefixed(_, part) => prepare(library, alloc, part, prepared),
+        Conv::Prefixed(_, part) => prepare(library, part, prepared),
     }
 }
 
 // The same for each of these.
 #[cycle(prepare)]
-fn prepare_all(library: &mut Library, alloc: Global, convs: &[Conv], prepared: &mut Vec<NamedRules>)
+fn prepare_all(library: &mut Library, convs: &[Conv], prepared: &mut Vec<NamedRules>)
     requires library { IsLibrary library.old }
     requires prepared { ArePrepared library.old prepared.old.items }
     ensures prepares { Prepares library.old library.new prepared.new.items }
 {
     for conv in convs {
-        prepare(library, alloc, conv, prepared);
+        prepare(library, conv, prepared);
     }
 }

@@ -19,7 +19,6 @@ use hol_model::Fault;
 use hol_rewrite::{Choice, rewrite_at};
 use hol_terms::{Parts, Term};
 use hol_theorem_library::Library;
-use std::alloc::Global;
 
 // Whether the term is an abstraction that is applied.
 fn is_redex(term: &Term) -> bool
@@ -36,7 +35,7 @@ fn is_redex(term: &Term) -> bool
 
 /// BETA_CONV: for `(\x. b) a`, `|- (\x. b) a = b[a/x]`. Refused where the term is no abstraction that is applied
 /// (`ConvFails`).
-pub fn beta_conv(library: &mut Library, alloc: Global, term: &Term) -> Result<Rec, Fault>
+pub fn beta_conv(library: &mut Library, term: &Term) -> Result<Rec, Fault>
     requires library { IsLibrary library.old }
     ensures makes { Makes library.old library.new result }
     ensures answers { AnswersStated (theorem_in result) (image term.now ∷ []) (redex_outcome library.old.recorder.theory term.now) }
@@ -44,14 +43,13 @@ pub fn beta_conv(library: &mut Library, alloc: Global, term: &Term) -> Result<Re
     if !is_redex(term) {
         return Err(Fault::ConvFails);
     }
-    hol_equal::beta_conv(&mut library.recorder, alloc, term)
+    hol_equal::beta_conv(&mut library.recorder, term)
 }
 
 /// Rewriting by rules that are there, of the term and not of its parts: the first rule that applies. The choice is that of
 /// the rules, which are equations. Refused as `rewrite_at`.
 pub fn rules_conv(
     library: &mut Library,
-    alloc: Global,
     rules: &[Rec],
     choice: &Choice,
     term: &Term,
@@ -64,5 +62,5 @@ pub fn rules_conv(
     ensures makes { Makes library.old library.new result }
     ensures rewrites { Rewrites (theorems rules.now) term.now (theorem_in result) ⊎ (theorem_in result ≡ Err Memory) }
 {
-    rewrite_at(&mut library.recorder, alloc, rules, choice, term)
+    rewrite_at(&mut library.recorder, rules, choice, term)
 }

@@ -21,7 +21,6 @@ use hol_journal::Rec;
 use hol_model::{Fault, TERM_HEIGHT_LIMIT, TERM_NODES_LIMIT, TYPE_NODES_LIMIT};
 use hol_terms::Term;
 use hol_theorem_library::Library;
-use std::alloc::Global;
 
 /// What a conversion answers on a term.
 #[derive(Drop)]
@@ -65,7 +64,6 @@ pub fn as_answer(made: Result<Rec, Fault>) -> Result<Converted, Fault>
 /// The theorem of an answer on a known term.
 pub fn theorem(
     library: &mut Library,
-    alloc: Global,
     t: &Term,
     answer: Result<Converted, Fault>,
 ) -> Result<Rec, Fault>
@@ -76,7 +74,7 @@ pub fn theorem(
     ensures makes { Makes library.old library.new result }
 {
     match answer? {
-        Converted::Same => refl_known(library, alloc, t),
+        Converted::Same => refl_known(library, t),
         Converted::Changed(made) => Ok(made),
     }
 }
@@ -98,7 +96,6 @@ pub fn right_of<'a>(library: &Library, t: &'a Term, answer: &'a Converted) -> &'
 /// MK_COMB of answers on the parts of a known term.
 pub fn of_parts(
     library: &mut Library,
-    alloc: Global,
     t: &Term,
     function: &Term,
     argument: &Term,
@@ -122,11 +119,11 @@ pub fn of_parts(
     match first {
         Converted::Same => match second {
             Converted::Same => unchanged(t),
-            Converted::Changed(second) => as_answer(ap_term(library, alloc, function, &second)),
+            Converted::Changed(second) => as_answer(ap_term(library, function, &second)),
         },
         Converted::Changed(first) => match second {
-            Converted::Same => as_answer(ap_thm(library, alloc, &first, argument)),
-            Converted::Changed(second) => as_answer(mk_comb(library, alloc, &first, &second)),
+            Converted::Same => as_answer(ap_thm(library, &first, argument)),
+            Converted::Changed(second) => as_answer(mk_comb(library, &first, &second)),
         },
     }
 }
@@ -134,7 +131,6 @@ pub fn of_parts(
 /// AP_TERM of an answer on the argument of a known term. Refused as REFL of the function, which may have the larger type.
 pub fn of_argument(
     library: &mut Library,
-    alloc: Global,
     t: &Term,
     function: &Term,
     argument: &Term,
@@ -152,13 +148,12 @@ pub fn of_argument(
 {
     let part = part?;
     let same = unchanged(function)?;
-    of_parts(library, alloc, t, function, argument, same, Ok(part))
+    of_parts(library, t, function, argument, same, Ok(part))
 }
 
 /// AP_THM of an answer on the function of a known term. Refused as REFL of the argument, which may have the larger type.
 pub fn of_function(
     library: &mut Library,
-    alloc: Global,
     t: &Term,
     function: &Term,
     argument: &Term,
@@ -176,13 +171,12 @@ pub fn of_function(
 {
     let part = part?;
     let same = unchanged(argument)?;
-    of_parts(library, alloc, t, function, argument, part, Ok(same))
+    of_parts(library, t, function, argument, part, Ok(same))
 }
 
 /// ABS of an answer on the body of a known term, an abstraction over this variable. Refused as `abs`.
 pub fn of_body(
     library: &mut Library,
-    alloc: Global,
     t: &Term,
     binder: &Term,
     part: Result<Converted, Fault>,
@@ -196,13 +190,13 @@ pub fn of_body(
 {
     match part {
         Ok(Converted::Same) => unchanged(t),
-        Ok(Converted::Changed(part)) => as_answer(abs(library, alloc, binder, &part)),
+        Ok(Converted::Changed(part)) => as_answer(abs(library, binder, &part)),
         Err(fault) => Err(fault),
     }
 }
 
 // TRANS of what REFL proves and a theorem.
-fn from_same(library: &mut Library, alloc: Global, t: &Term, next: &Rec) -> Result<Rec, Fault>
+fn from_same(library: &mut Library, t: &Term, next: &Rec) -> Result<Rec, Fault>
     requires library { IsLibrary library.old }
     requires known { is_known library.old.recorder.theory t.now ≡ true }
     requires next { IsMade library.old.recorder next.now }
@@ -210,12 +204,12 @@ fn from_same(library: &mut Library, alloc: Global, t: &Term, next: &Rec) -> Resu
     ensures makes { Makes library.old library.new result }
     ensures joins { Joins (from_refl library.old.recorder.theory t.now next.now.theorem) (theorem_in result) }
 {
-    let same = refl_known(library, alloc, t)?;
-    trans_known(library, alloc, &same, next)
+    let same = refl_known(library, t)?;
+    trans_known(library, &same, next)
 }
 
 // TRANS of a theorem and what REFL proves.
-fn to_same(library: &mut Library, alloc: Global, first: &Rec, right: &Term) -> Result<Rec, Fault>
+fn to_same(library: &mut Library, first: &Rec, right: &Term) -> Result<Rec, Fault>
     requires library { IsLibrary library.old }
     requires known { is_known library.old.recorder.theory right.now ≡ true }
     requires first { IsMade library.old.recorder first.now }
@@ -223,15 +217,14 @@ fn to_same(library: &mut Library, alloc: Global, first: &Rec, right: &Term) -> R
     ensures makes { Makes library.old library.new result }
     ensures joins { Joins (to_refl library.old.recorder.theory first.now.theorem right.now) (theorem_in result) }
 {
-    let same = refl_known(library, alloc, right)?;
-    trans_known(library, alloc, first, &same)
+    let same = refl_known(library, right)?;
+    trans_known(library, first, &same)
 }
 
 /// TRANS of an answer on a known term and one on its right side, which nothing is compared for. A theorem is not joined for
 /// nothing: the next may have other bound names on its left side, and the first stands on an earlier theory, it may be.
 pub fn then(
     library: &mut Library,
-    alloc: Global,
     t: &Term,
     first: &Converted,
     right: &Term,
@@ -252,11 +245,11 @@ pub fn then(
     match first {
         Converted::Same => match next {
             Converted::Same => Ok(Converted::Same),
-            Converted::Changed(next) => as_answer(from_same(library, alloc, t, &next)),
+            Converted::Changed(next) => as_answer(from_same(library, t, &next)),
         },
         Converted::Changed(first) => match next {
-            Converted::Same => as_answer(to_same(library, alloc, first, right)),
-            Converted::Changed(next) => as_answer(trans_known(library, alloc, first, &next)),
+            Converted::Same => as_answer(to_same(library, first, right)),
+            Converted::Changed(next) => as_answer(trans_known(library, first, &next)),
         },
     }
 }

@@ -22,7 +22,6 @@ use hol_kernel::Thm;
 use hol_model::Fault;
 use hol_terms::Term;
 use hol_theorem_library::Library;
-use std::alloc::Global;
 
 // Whether the theorem says, without hypotheses, that the first term equals the second.
 fn says_equal(left: &Term, right: &Term, theorem: &Thm) -> bool
@@ -46,20 +45,13 @@ fn is_promised(left: &Term, right: &Term, theorem: &Thm) -> bool
 }
 
 // The theorem of a justification, where that is the equation of the two terms.
-fn equation_of(
-    library: &mut Library,
-    alloc: Global,
-    left: &Term,
-    right: &Term,
-    just: &Just,
-) -> Result<Rec, Fault>
+fn equation_of(library: &mut Library, left: &Term, right: &Term, just: &Just) -> Result<Rec, Fault>
     requires library { IsLibrary library.old }
     ensures makes { Makes library.old library.new result }
     ensures answers { AnswersHostEquation library.old.recorder.theory (store_in library.old) left.now (record { term = right.now; justification = tree_of just.now }) (theorem_in result) }
 {
     let made = replay(
         &mut library.recorder,
-        alloc,
         &library.logic,
         &library.store,
         just,
@@ -78,7 +70,6 @@ fn equation_of(
 /// only where the replay has no room.
 pub fn host_conv<H: Converters>(
     library: &mut Library,
-    alloc: Global,
     hosts: &H,
     name: &str,
     term: &Term,
@@ -87,10 +78,11 @@ pub fn host_conv<H: Converters>(
     ensures makes { Makes library.old library.new result }
     ensures converts { ConvertsInStep library.old.recorder.theory (store_in library.old) (H.conversions hosts.now) (conv.host_conv name.now) term.now (theorem_in result) }
 {
+    let alloc = library.recorder.alloc();
     match hosts.convert(alloc, name, term) {
         None => Err(Fault::UnknownName),
         Some(Err(HostFail::Failed)) => Err(Fault::ConvFails),
         Some(Err(HostFail::Memory)) => Err(Fault::Memory),
-        Some(Ok((other, just))) => equation_of(library, alloc, term, &other, &just),
+        Some(Ok((other, just))) => equation_of(library, term, &other, &just),
     }
 }

@@ -17,26 +17,20 @@ use hol_journal::Rec;
 use hol_model::Fault;
 use hol_terms::Term;
 use hol_theorem_library::Library;
-use std::alloc::Global;
 
 /// REFL: `|- t = t`, as ALL_CONV, of a term that the library's theory knows, which is not walked for it. Refused as the kernel's rule.
-pub fn refl_known(library: &mut Library, alloc: Global, term: &Term) -> Result<Rec, Fault>
+pub fn refl_known(library: &mut Library, term: &Term) -> Result<Rec, Fault>
     requires library { IsLibrary library.old }
     requires known { is_known library.old.recorder.theory term.now ≡ true }
     ensures makes { Makes library.old library.new result }
     ensures joins { Joins (refl_outcome library.old.recorder.theory term.now) (theorem_in result) }
 {
-    library.recorder.refl_known(alloc, term)
+    library.recorder.refl_known(term)
 }
 
 /// TRANS: from `a = b` and `b = c`, `a = c`, whose middle terms are known to meet, so that they are not compared. Refused as the
 /// kernel's rule.
-pub fn trans_known(
-    library: &mut Library,
-    alloc: Global,
-    first: &Rec,
-    second: &Rec,
-) -> Result<Rec, Fault>
+pub fn trans_known(library: &mut Library, first: &Rec, second: &Rec) -> Result<Rec, Fault>
     requires library { IsLibrary library.old }
     requires first { IsMade library.old.recorder first.now }
     requires second { IsMade library.old.recorder second.now }
@@ -46,57 +40,42 @@ pub fn trans_known(
 {
     let _first = conclusion_of(&library.recorder, first);
     let _second = conclusion_of(&library.recorder, second);
-    library.recorder.trans_known(alloc, first, second)
+    library.recorder.trans_known(first, second)
 }
 
 /// MK_COMB: from `f = g` and `x = y`, `f x = g y`. Refused as the kernel's rule.
-pub fn mk_comb(
-    library: &mut Library,
-    alloc: Global,
-    first: &Rec,
-    second: &Rec,
-) -> Result<Rec, Fault>
+pub fn mk_comb(library: &mut Library, first: &Rec, second: &Rec) -> Result<Rec, Fault>
     requires library { IsLibrary library.old }
     requires first { IsMade library.old.recorder first.now }
     requires second { IsMade library.old.recorder second.now }
     ensures makes { Makes library.old library.new result }
     ensures joins { Joins (of_parts library.old.recorder.theory (Ok first.now.theorem) (Ok second.now.theorem)) (theorem_in result) }
 {
-    library.recorder.mk_comb(alloc, first, second)
+    library.recorder.mk_comb(first, second)
 }
 
 /// AP_TERM: from `x = y`, `f x = f y`, by REFL and MK_COMB. Refused as these, in this order.
-pub fn ap_term(
-    library: &mut Library,
-    alloc: Global,
-    function: &Term,
-    argument: &Rec,
-) -> Result<Rec, Fault>
+pub fn ap_term(library: &mut Library, function: &Term, argument: &Rec) -> Result<Rec, Fault>
     requires library { IsLibrary library.old }
     requires known { is_known library.old.recorder.theory function.now ≡ true }
     requires argument { IsMade library.old.recorder argument.now }
     ensures makes { Makes library.old library.new result }
     ensures joins { Joins (of_argument library.old.recorder.theory function.now (Ok argument.now.theorem)) (theorem_in result) }
 {
-    let same = refl_known(library, alloc, function)?;
-    mk_comb(library, alloc, &same, argument)
+    let same = refl_known(library, function)?;
+    mk_comb(library, &same, argument)
 }
 
 /// AP_THM: from `f = g`, `f x = g x`, by REFL and MK_COMB. Refused as these, in this order.
-pub fn ap_thm(
-    library: &mut Library,
-    alloc: Global,
-    function: &Rec,
-    argument: &Term,
-) -> Result<Rec, Fault>
+pub fn ap_thm(library: &mut Library, function: &Rec, argument: &Term) -> Result<Rec, Fault>
     requires library { IsLibrary library.old }
     requires function { IsMade library.old.recorder function.now }
     requires known { is_known library.old.recorder.theory argument.now ≡ true }
     ensures makes { Makes library.old library.new result }
     ensures joins { Joins (of_function library.old.recorder.theory argument.now (Ok function.now.theorem)) (theorem_in result) }
 {
-    let same = refl_known(library, alloc, argument)?;
-    mk_comb(library, alloc, function, &same)
+    let same = refl_known(library, argument)?;
+    mk_comb(library, function, &same)
 }
 
 // A variable that is free in a hypothesis is a refusal of the conversion.
@@ -111,13 +90,13 @@ fn refusal(fault: Fault) -> Fault
 
 /// ABS: from `s = t`, `(\x. s) = (\x. t)`. Refused as the kernel's rule, but with ConvFails where `x` is free in a
 /// hypothesis.
-pub fn abs(library: &mut Library, alloc: Global, binder: &Term, body: &Rec) -> Result<Rec, Fault>
+pub fn abs(library: &mut Library, binder: &Term, body: &Rec) -> Result<Rec, Fault>
     requires library { IsLibrary library.old }
     requires body { IsMade library.old.recorder body.now }
     ensures makes { Makes library.old library.new result }
     ensures joins { (name : List ℕ) (ty : HolType) → binder.now ≡ variable name ty → Joins (of_body library.old.recorder.theory name ty (Ok body.now.theorem)) (theorem_in result) }
 {
-    match library.recorder.abs(alloc, binder, body) {
+    match library.recorder.abs(binder, body) {
         Ok(made) => Ok(made),
         Err(fault) => Err(refusal(fault)),
     }

@@ -16,7 +16,6 @@ use hol_rewrite::{Choice, choice_of};
 use hol_rewrite_rules::rules_of;
 use hol_terms::Term;
 use hol_theorem_library::{Library, libraries_continue};
-use std::alloc::Global;
 
 /// The rules of a stored theorem, and the choice among them.
 #[derive(Drop)]
@@ -37,7 +36,7 @@ impl NamedRules {
 }
 
 // The rules of the theorem of this name.
-fn stored_rules(library: &mut Library, alloc: Global, name: &str) -> Result<Vec<Rec>, Fault>
+fn stored_rules(library: &mut Library, name: &str) -> Result<Vec<Rec>, Fault>
     requires library { IsLibrary library.old }
     ensures library { IsLibrary library.new }
     ensures continued { IsContinued library.old library.new }
@@ -47,21 +46,22 @@ fn stored_rules(library: &mut Library, alloc: Global, name: &str) -> Result<Vec<
 {
     libraries_continue();
     match library.store.get(name) {
-        Some(theorem) => rules_of(&mut library.recorder, alloc, &library.logic, theorem),
+        Some(theorem) => rules_of(&mut library.recorder, &library.logic, theorem),
         None => Err(Fault::UnknownName),
     }
 }
 
 /// The rules of the theorem of this name. Refused, in this order: no theorem has the name (`UnknownName`); as `rules_of`;
 /// and Memory.
-pub fn rules_named(library: &mut Library, alloc: Global, name: &str) -> Result<NamedRules, Fault>
+pub fn rules_named(library: &mut Library, name: &str) -> Result<NamedRules, Fault>
     requires library { IsLibrary library.old }
     ensures library { IsLibrary library.new }
     ensures continued { IsContinued library.old library.new }
     ensures ok { IfOk result (IsPreparedFor library.new name.now) }
     ensures err { IfErr result (RefusesRules (store_in library.old) name.now) }
 {
-    let rules = stored_rules(library, alloc, name)?;
+    let alloc = library.recorder.alloc();
+    let rules = stored_rules(library, name)?;
     let choice = choice_of(alloc, &rules)?;
     match String::from_str(alloc, name) {
         Ok(name) => Ok(NamedRules {
@@ -77,7 +77,6 @@ pub fn rules_named(library: &mut Library, alloc: Global, name: &str) -> Result<N
 /// `rewrite_at`.
 pub fn prepared_rewr_conv(
     library: &mut Library,
-    alloc: Global,
     named: &NamedRules,
     term: &Term,
 ) -> Result<Rec, Fault>
@@ -87,22 +86,17 @@ pub fn prepared_rewr_conv(
     ensures makes { Makes library.old library.new result }
     ensures rewrites { RewritesByName (store_in library.old) (string_bytes named.now.name) term.now (theorem_in result) }
 {
-    rules_conv(library, alloc, &named.rules, &named.choice, term)
+    rules_conv(library, &named.rules, &named.choice, term)
 }
 
 /// REWR_CONV: rewriting by the rules of a stored theorem, of the term and not of its parts. Refused, in this order: no
 /// theorem has the name (`UnknownName`); as `rules_of`; as `rewrite_at`.
-pub fn rewr_conv(
-    library: &mut Library,
-    alloc: Global,
-    name: &str,
-    term: &Term,
-) -> Result<Rec, Fault>
+pub fn rewr_conv(library: &mut Library, name: &str, term: &Term) -> Result<Rec, Fault>
     requires library { IsLibrary library.old }
     requires known { is_known library.old.recorder.theory term.now ≡ true }
     ensures makes { Makes library.old library.new result }
     ensures rewrites { RewritesByName (store_in library.old) name.now term.now (theorem_in result) }
 {
-    let named = rules_named(library, alloc, name)?;
-    prepared_rewr_conv(library, alloc, &named, term)
+    let named = rules_named(library, name)?;
+    prepared_rewr_conv(library, &named, term)
 }

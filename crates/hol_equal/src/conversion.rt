@@ -10,13 +10,11 @@ use crate::steps;
 use hol_journal::{Rec, Recorder};
 use hol_model::Fault;
 use hol_terms::Term;
-use std::alloc::Global;
 
 /// For an abstraction `\x. b`, its variable and a term `a`, all of them known to the theory and not walked for it, the theorem
 /// `(\x. b) a = b[a/x]`, in two steps.
 pub fn converted_known(
     recorder: &mut Recorder,
-    alloc: Global,
     function: &Term,
     binder: &Term,
     argument: &Term,
@@ -28,9 +26,10 @@ pub fn converted_known(
         → first_unknown recorder.old.theory (combination (abstraction name ty body) argument.now) ≡ None
         → DerivesIf (conversion_fits name ty codomain body argument.now) result [] (conversion name ty codomain body argument.now) }
 {
+    let alloc = recorder.alloc();
     let trivial = Term::mk_comb(alloc, function, binder)?;
-    let equation = steps::beta_known(recorder, alloc, &trivial)?;
+    let equation = steps::beta_known(recorder, &trivial)?;
     let new = argument.copy(alloc)?;
     let old = binder.copy(alloc)?;
-    steps::inst_known(recorder, alloc, &[(new, old)], &equation)
+    steps::inst_known(recorder, &[(new, old)], &equation)
 }

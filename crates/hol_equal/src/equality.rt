@@ -24,7 +24,6 @@ use hol_alpha::aconv;
 use hol_journal::{Rec, Recorder};
 use hol_model::Fault;
 use hol_terms::{Parts, Term};
-use std::alloc::Global;
 
 /// The parts of an equation, `=` among them.
 #[derive(Clone, Copy)]
@@ -92,7 +91,7 @@ fn redex_parts(term: &Term) -> Option<Redex<'_>>
 
 /// SYM: from `a = b`, `b = a`, in five steps of the kernel's rules. Refused where the conclusion is no equation.
 #[tactic(auto, using(crate::proofs::InferredEquality::infers_sym))]
-pub fn sym(recorder: &mut Recorder, alloc: Global, premise: &Rec) -> Result<Rec, Fault>
+pub fn sym(recorder: &mut Recorder, premise: &Rec) -> Result<Rec, Fault>
     requires { IsMade recorder.old premise.now }
     ensures continues { Continues recorder.old recorder.new result }
     ensures outcome { AnswersStated (theorem_in result) (terms_of_theorem premise.now.theorem) (sym_outcome premise.now.theorem) }
@@ -101,21 +100,16 @@ pub fn sym(recorder: &mut Recorder, alloc: Global, premise: &Rec) -> Result<Rec,
     let Some(parts) = equation_parts(conclusion_of(recorder, premise)) else {
         return Err(Fault::NotEquation);
     };
-    let same = steps::refl_known(recorder, alloc, parts.relation)?;
-    let applied = steps::mk_comb(recorder, alloc, &same, premise)?;
-    let reflexive = steps::refl_known(recorder, alloc, parts.left)?;
-    let congruence = steps::mk_comb(recorder, alloc, &applied, &reflexive)?;
-    steps::eq_mp_known(recorder, alloc, &congruence, &reflexive)
+    let same = steps::refl_known(recorder, parts.relation)?;
+    let applied = steps::mk_comb(recorder, &same, premise)?;
+    let reflexive = steps::refl_known(recorder, parts.left)?;
+    let congruence = steps::mk_comb(recorder, &applied, &reflexive)?;
+    steps::eq_mp_known(recorder, &congruence, &reflexive)
 }
 
 /// The theorem with this conclusion, which differs from its own in the names of bound variables alone, in two
 /// steps. Walks the term; where a proof shows that the theory knows it, and that the two fit, `named_same`.
-pub fn named(
-    recorder: &mut Recorder,
-    alloc: Global,
-    term: &Term,
-    premise: &Rec,
-) -> Result<Rec, Fault>
+pub fn named(recorder: &mut Recorder, term: &Term, premise: &Rec) -> Result<Rec, Fault>
     requires { IsMade recorder.old premise.now }
     ensures continues { Continues recorder.old recorder.new result }
     ensures names { IfOk result (λ made. made.theorem.conclusion ≡ term.now) }
@@ -125,20 +119,15 @@ pub fn named(
     let _premise = recorder.thm(premise).concl();
     let _type = term.ty();
     recorder.theory_is_legal();
-    let reflexive = steps::refl(recorder, alloc, term)?;
-    steps::eq_mp(recorder, alloc, &reflexive, premise)
+    let reflexive = steps::refl(recorder, term)?;
+    steps::eq_mp(recorder, &reflexive, premise)
 }
 
 /// The theorem with this conclusion, which differs from its own in the names of bound variables alone: itself where nothing
 /// is bound, else in two steps. Of a theorem on the recorder's theory, and a formula that the theory knows: it is not walked
 /// for it, and the two are not compared.
 #[tactic(auto, using(crate::proofs::Exact::exactness))]
-pub fn named_same(
-    recorder: &mut Recorder,
-    alloc: Global,
-    term: &Term,
-    premise: &Rec,
-) -> Result<Rec, Fault>
+pub fn named_same(recorder: &mut Recorder, term: &Term, premise: &Rec) -> Result<Rec, Fault>
     requires premise { IsHeld recorder.old premise.now }
     requires formula { IsFormula recorder.old.theory term.now }
     requires same { image premise.now.theorem.conclusion ≡ image term.now }
@@ -148,24 +137,25 @@ pub fn named_same(
         → DerivesIf (nameless_within_limits (nameless_equation bool_type (image term.now) (image term.now))) result h (image term.now) }
 {
     if !term.has_binders() {
-        return kept(recorder, alloc, premise);
+        return kept(recorder, premise);
     }
-    renamed(recorder, alloc, term, premise)
+    renamed(recorder, term, premise)
 }
 
 // The same theorem.
-fn kept(recorder: &mut Recorder, alloc: Global, premise: &Rec) -> Result<Rec, Fault>
+fn kept(recorder: &mut Recorder, premise: &Rec) -> Result<Rec, Fault>
     requires { IsHeld recorder.old premise.now }
     ensures continues { Continues recorder.old recorder.new result }
     ensures ok { IfOk result (λ made. made ≡ premise.now) }
     ensures err { IfErr result (λ fault. fault ≡ Memory) }
 {
+    let alloc = recorder.alloc();
     let _recorder = recorder;
     premise.copy(alloc)
 }
 
 // The theorem with these names, by REFL and EQ_MP.
-fn renamed(recorder: &mut Recorder, alloc: Global, term: &Term, premise: &Rec) -> Result<Rec, Fault>
+fn renamed(recorder: &mut Recorder, term: &Term, premise: &Rec) -> Result<Rec, Fault>
     requires premise { IsMade recorder.old premise.now }
     requires formula { IsFormula recorder.old.theory term.now }
     requires same { image premise.now.theorem.conclusion ≡ image term.now }
@@ -177,12 +167,12 @@ fn renamed(recorder: &mut Recorder, alloc: Global, term: &Term, premise: &Rec) -
     let _premise = recorder.thm(premise).concl();
     let _type = term.ty();
     recorder.theory_is_legal();
-    let reflexive = steps::refl_known(recorder, alloc, term)?;
-    steps::eq_mp_known(recorder, alloc, &reflexive, premise)
+    let reflexive = steps::refl_known(recorder, term)?;
+    steps::eq_mp_known(recorder, &reflexive, premise)
 }
 
 /// From `p` and `q`, `q`, with the hypotheses of the first, and those of the second but `p`, in two steps.
-pub fn cut(recorder: &mut Recorder, alloc: Global, first: &Rec, second: &Rec) -> Result<Rec, Fault>
+pub fn cut(recorder: &mut Recorder, first: &Rec, second: &Rec) -> Result<Rec, Fault>
     requires first { IsMade recorder.old first.now }
     requires second { IsMade recorder.old second.now }
     ensures continues { Continues recorder.old recorder.new result }
@@ -192,17 +182,12 @@ pub fn cut(recorder: &mut Recorder, alloc: Global, first: &Rec, second: &Rec) ->
 {
     let _first = recorder.thm(first).concl();
     let _second = recorder.thm(second).concl();
-    let equivalence = steps::deduct_antisym(recorder, alloc, first, second)?;
-    steps::eq_mp_known(recorder, alloc, &equivalence, first)
+    let equivalence = steps::deduct_antisym(recorder, first, second)?;
+    steps::eq_mp_known(recorder, &equivalence, first)
 }
 
 /// From `p` and `q`, `q`, as `cut`, where the second theorem has no hypothesis but `p`, which is not compared for it.
-pub fn cut_known(
-    recorder: &mut Recorder,
-    alloc: Global,
-    first: &Rec,
-    second: &Rec,
-) -> Result<Rec, Fault>
+pub fn cut_known(recorder: &mut Recorder, first: &Rec, second: &Rec) -> Result<Rec, Fault>
     requires first { IsMade recorder.old first.now }
     requires second { IsMade recorder.old second.now }
     requires fits { DeductFits first.now.theorem second.now.theorem }
@@ -213,38 +198,28 @@ pub fn cut_known(
 {
     let _first = recorder.thm(first).concl();
     let _second = recorder.thm(second).concl();
-    let equivalence = steps::deduct_antisym_known(recorder, alloc, first, second)?;
-    steps::eq_mp_known(recorder, alloc, &equivalence, first)
+    let equivalence = steps::deduct_antisym_known(recorder, first, second)?;
+    steps::eq_mp_known(recorder, &equivalence, first)
 }
 
 /// ADD_ASSUM: from `q`, `q` with the hypothesis `p`, in three steps. Refused where `p` is not of type `bool`, and then
 /// where the theory does not know a type or a constant of it. Walks `p`; where a proof shows that it is a formula that the
 /// theory knows, `add_assum_known`.
 #[tactic(auto, using(crate::proofs::InferredEquality::infers_add_assum))]
-pub fn add_assum(
-    recorder: &mut Recorder,
-    alloc: Global,
-    p: &Term,
-    premise: &Rec,
-) -> Result<Rec, Fault>
+pub fn add_assum(recorder: &mut Recorder, p: &Term, premise: &Rec) -> Result<Rec, Fault>
     requires { IsMade recorder.old premise.now }
     ensures continues { Continues recorder.old recorder.new result }
     ensures outcome { AnswersStated (theorem_in result) (image p.now ∷ terms_of_theorem premise.now.theorem) (add_assum_outcome recorder.old.theory p.now premise.now.theorem) }
     ensures inferred { Infers recorder.old.theory (rule_add_assum p.now) (premise.now.theorem ∷ []) (theorem_in result) }
 {
     let _type = p.ty();
-    let assumed = steps::assume(recorder, alloc, p)?;
-    cut(recorder, alloc, &assumed, premise)
+    let assumed = steps::assume(recorder, p)?;
+    cut(recorder, &assumed, premise)
 }
 
 /// ADD_ASSUM of a formula that the theory knows, which is not walked for it, in three steps.
 #[tactic(auto, using(crate::proofs::InferredEquality::infers_add_assum))]
-pub fn add_assum_known(
-    recorder: &mut Recorder,
-    alloc: Global,
-    p: &Term,
-    premise: &Rec,
-) -> Result<Rec, Fault>
+pub fn add_assum_known(recorder: &mut Recorder, p: &Term, premise: &Rec) -> Result<Rec, Fault>
     requires premise { IsMade recorder.old premise.now }
     requires formula { IsFormula recorder.old.theory p.now }
     ensures continues { Continues recorder.old recorder.new result }
@@ -252,19 +227,14 @@ pub fn add_assum_known(
     ensures inferred { Infers recorder.old.theory (rule_add_assum p.now) (premise.now.theorem ∷ []) (theorem_in result) }
 {
     let _type = p.ty();
-    let assumed = steps::assume_known(recorder, alloc, p)?;
-    cut(recorder, alloc, &assumed, premise)
+    let assumed = steps::assume_known(recorder, p)?;
+    cut(recorder, &assumed, premise)
 }
 
 /// PROVE_HYP: from `p` and `q`, `q` without the hypothesis `p`, and with the hypotheses of the first where `p` is one of
 /// the second's, in two steps.
 #[tactic(auto, using(crate::proofs::InferredEquality::infers_prove_hyp))]
-pub fn prove_hyp(
-    recorder: &mut Recorder,
-    alloc: Global,
-    first: &Rec,
-    second: &Rec,
-) -> Result<Rec, Fault>
+pub fn prove_hyp(recorder: &mut Recorder, first: &Rec, second: &Rec) -> Result<Rec, Fault>
     requires first { IsMade recorder.old first.now }
     requires second { IsMade recorder.old second.now }
     ensures continues { Continues recorder.old recorder.new result }
@@ -274,9 +244,9 @@ pub fn prove_hyp(
     let p = recorder.thm(first).concl();
     let theorem = recorder.thm(second);
     if is_alpha_among(p, theorem.hyps()) {
-        return cut(recorder, alloc, first, second);
+        return cut(recorder, first, second);
     }
-    cut(recorder, alloc, second, second)
+    cut(recorder, second, second)
 }
 
 // Whether the term is one of a list, up to the names of bound variables.
@@ -287,10 +257,11 @@ fn is_alpha_among(term: &Term, terms: &[Term]) -> bool
 }
 
 // BETA_CONV up to the names of bound variables: BETA at the abstraction's own variable, and the argument for it.
-fn beta_converted(recorder: &mut Recorder, alloc: Global, term: &Term) -> Result<Rec, Fault>
+fn beta_converted(recorder: &mut Recorder, term: &Term) -> Result<Rec, Fault>
     ensures continues { Continues recorder.old recorder.new result }
     ensures outcome { AnswersStated (theorem_in result) (image term.now ∷ []) (beta_converted_outcome recorder.old.theory term.now) }
 {
+    let alloc = recorder.alloc();
     let _type = term.ty();
     let Some(redex) = redex_parts(term) else {
         return Err(Fault::BadShape);
@@ -300,22 +271,22 @@ fn beta_converted(recorder: &mut Recorder, alloc: Global, term: &Term) -> Result
         None => {}
     }
     let trivial = Term::mk_comb(alloc, redex.function, redex.binder)?;
-    let converted = steps::beta_known(recorder, alloc, &trivial)?;
+    let converted = steps::beta_known(recorder, &trivial)?;
     let argument = redex.argument.copy(alloc)?;
     let binder = redex.binder.copy(alloc)?;
-    steps::inst_known(recorder, alloc, &[(argument, binder)], &converted)
+    steps::inst_known(recorder, &[(argument, binder)], &converted)
 }
 
 /// BETA_CONV: for `(\x. b) a` the theorem `(\x. b) a = b[a/x]`, the left side as it is. Refused where the term is no
 /// abstraction that is applied, and then where the theory does not know a type or a constant of it.
 #[tactic(auto, using(crate::proofs::InferredEquality::infers_beta_conv))]
-pub fn beta_conv(recorder: &mut Recorder, alloc: Global, term: &Term) -> Result<Rec, Fault>
+pub fn beta_conv(recorder: &mut Recorder, term: &Term) -> Result<Rec, Fault>
     ensures continues { Continues recorder.old recorder.new result }
     ensures outcome { AnswersStated (theorem_in result) (image term.now ∷ []) (beta_conv_outcome recorder.old.theory term.now) }
     ensures inferred { Infers recorder.old.theory (rule_beta_conv term.now) [] (theorem_in result) }
 {
     let _type = term.ty();
-    let converted = beta_converted(recorder, alloc, term)?;
-    let same = steps::refl_known(recorder, alloc, term)?;
-    steps::trans_known(recorder, alloc, &same, &converted)
+    let converted = beta_converted(recorder, term)?;
+    let same = steps::refl_known(recorder, term)?;
+    steps::trans_known(recorder, &same, &converted)
 }

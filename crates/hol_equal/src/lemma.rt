@@ -17,13 +17,11 @@ use hol_journal::{Rec, Recorder};
 use hol_model::Fault;
 use hol_terms::Term;
 use hol_types::Ty;
-use std::alloc::Global;
 
 /// The instance of a lemma with these types for type variables, and then these terms for variables, in at
 /// most two steps. Walks the terms; where a proof shows that the theory knows them, `instance_known`.
 pub fn instance(
     recorder: &mut Recorder,
-    alloc: Global,
     types: &[(Ty, Ty)],
     terms: &[(Term, Term)],
     lemma: &Rec,
@@ -36,17 +34,16 @@ pub fn instance(
         ++ map (instance_of types.now terms.now) (c ∷ h))) result (map (instance_of types.now terms.now) h) (instance_of types.now terms.now c) }
 {
     if types.is_empty() {
-        return steps::inst(recorder, alloc, terms, lemma);
+        return steps::inst(recorder, terms, lemma);
     }
-    let typed = steps::inst_type(recorder, alloc, types, lemma)?;
-    steps::inst(recorder, alloc, terms, &typed)
+    let typed = steps::inst_type(recorder, types, lemma)?;
+    steps::inst(recorder, terms, &typed)
 }
 
 /// The instance of a lemma with these types for type variables, and then these terms, which the theory knows and which
 /// are not walked for it, for variables of their types, in at most two steps.
 pub fn instance_known(
     recorder: &mut Recorder,
-    alloc: Global,
     types: &[(Ty, Ty)],
     terms: &[(Term, Term)],
     lemma: &Rec,
@@ -60,10 +57,10 @@ pub fn instance_known(
         ++ map (instance_of types.now terms.now) (c ∷ h))) result (map (instance_of types.now terms.now) h) (instance_of types.now terms.now c) }
 {
     if types.is_empty() {
-        return steps::inst_known(recorder, alloc, terms, lemma);
+        return steps::inst_known(recorder, terms, lemma);
     }
-    let typed = steps::inst_type(recorder, alloc, types, lemma)?;
-    steps::inst_known(recorder, alloc, terms, &typed)
+    let typed = steps::inst_type(recorder, types, lemma)?;
+    steps::inst_known(recorder, terms, &typed)
 }
 
 /// From the lemma's hypothesis at an instance, its conclusion there, in at most four steps. A rule of two premises
@@ -73,7 +70,6 @@ pub fn instance_known(
 /// the premise fits, `by_fitting_lemma`.
 pub fn by_lemma(
     recorder: &mut Recorder,
-    alloc: Global,
     types: &[(Ty, Ty)],
     terms: &[(Term, Term)],
     lemma: &Rec,
@@ -88,15 +84,14 @@ pub fn by_lemma(
         ∷ instance_of types.now terms.now p ∷ nameless_equation bool_type (instance_of types.now terms.now p) (instance_of types.now terms.now c)
         ∷ [])) result h (instance_of types.now terms.now c) }
 {
-    let stated = instance(recorder, alloc, types, terms, lemma)?;
-    cut(recorder, alloc, premise, &stated)
+    let stated = instance(recorder, types, terms, lemma)?;
+    cut(recorder, premise, &stated)
 }
 
 /// From the lemma's hypothesis at an instance, its conclusion there, as `by_lemma`, by terms that the theory knows, which are
 /// not walked for it, where the premise fits: it is not compared with the hypothesis.
 pub fn by_fitting_lemma(
     recorder: &mut Recorder,
-    alloc: Global,
     types: &[(Ty, Ty)],
     terms: &[(Term, Term)],
     lemma: &Rec,
@@ -114,6 +109,6 @@ pub fn by_fitting_lemma(
         ∷ instance_of types.now terms.now p ∷ nameless_equation bool_type (instance_of types.now terms.now p) (instance_of types.now terms.now c)
         ∷ [])) result h (instance_of types.now terms.now c) }
 {
-    let stated = instance_known(recorder, alloc, types, terms, lemma)?;
-    cut_known(recorder, alloc, premise, &stated)
+    let stated = instance_known(recorder, types, terms, lemma)?;
+    cut_known(recorder, premise, &stated)
 }

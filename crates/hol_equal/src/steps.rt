@@ -21,7 +21,6 @@ use hol_journal::{Rec, Recorder};
 use hol_model::Fault;
 use hol_terms::Term;
 use hol_types::Ty;
-use std::alloc::Global;
 
 /// The conclusion of a theorem that this recorder made.
 pub fn conclusion_of<'a>(recorder: &Recorder, premise: &'a Rec) -> &'a Term
@@ -36,45 +35,45 @@ pub fn conclusion_of<'a>(recorder: &Recorder, premise: &'a Rec) -> &'a Term
 }
 
 // REFL, which walks the term.
-pub(crate) fn refl(recorder: &mut Recorder, alloc: Global, term: &Term) -> Result<Rec, Fault>
+pub(crate) fn refl(recorder: &mut Recorder, term: &Term) -> Result<Rec, Fault>
     ensures continues { Continues recorder.old recorder.new result }
     ensures names { IfOk result (λ made. made.theorem.conclusion ≡ equation term.now term.now) }
     ensures derives { (ty : HolType) → IsKnown recorder.old.theory (image term.now) ty → Derives result [] (nameless_equation ty (image term.now) (image term.now)) }
 {
-    recorder.refl(alloc, term)
+    recorder.refl(term)
 }
 
 // REFL, of a term that the theory knows, which is not walked for it.
-pub(crate) fn refl_known(recorder: &mut Recorder, alloc: Global, term: &Term) -> Result<Rec, Fault>
+pub(crate) fn refl_known(recorder: &mut Recorder, term: &Term) -> Result<Rec, Fault>
     requires { is_known recorder.old.theory term.now ≡ true }
     ensures continues { Continues recorder.old recorder.new result }
     ensures names { IfOk result (λ made. made.theorem.conclusion ≡ equation term.now term.now) }
     ensures derives { (ty : HolType) → IsKnown recorder.old.theory (image term.now) ty → Derives result [] (nameless_equation ty (image term.now) (image term.now)) }
 {
-    recorder.refl_known(alloc, term)
+    recorder.refl_known(term)
 }
 
 /// ASSUME, which walks the term; for a formula that the theory knows, `assume_known`.
-pub fn assume(recorder: &mut Recorder, alloc: Global, term: &Term) -> Result<Rec, Fault>
+pub fn assume(recorder: &mut Recorder, term: &Term) -> Result<Rec, Fault>
     ensures continues { Continues recorder.old recorder.new result }
     ensures outcome { Answers (theorem_in result) (assume_outcome recorder.old.theory term.now) }
     ensures gives { IsKnown recorder.old.theory (image term.now) bool_type → Gives result (image term.now ∷ []) (image term.now) }
 {
-    recorder.assume(alloc, term)
+    recorder.assume(term)
 }
 
 /// ASSUME, of a formula that the theory knows, which is not walked for it.
-pub fn assume_known(recorder: &mut Recorder, alloc: Global, term: &Term) -> Result<Rec, Fault>
+pub fn assume_known(recorder: &mut Recorder, term: &Term) -> Result<Rec, Fault>
     requires { IsFormula recorder.old.theory term.now }
     ensures continues { Continues recorder.old recorder.new result }
     ensures outcome { Answers (theorem_in result) (assume_outcome recorder.old.theory term.now) }
     ensures gives { IsKnown recorder.old.theory (image term.now) bool_type → Gives result (image term.now ∷ []) (image term.now) }
 {
-    recorder.assume_known(alloc, term)
+    recorder.assume_known(term)
 }
 
 // BETA, of a redex that the theory knows, which is not walked for it.
-pub(crate) fn beta_known(recorder: &mut Recorder, alloc: Global, term: &Term) -> Result<Rec, Fault>
+pub(crate) fn beta_known(recorder: &mut Recorder, term: &Term) -> Result<Rec, Fault>
     requires { is_known recorder.old.theory term.now ≡ true }
     ensures continues { Continues recorder.old recorder.new result }
     ensures derives { (name : List ℕ) (domain codomain : HolType) (body : NamedTerm)
@@ -82,16 +81,11 @@ pub(crate) fn beta_known(recorder: &mut Recorder, alloc: Global, term: &Term) ->
         → IsKnown recorder.old.theory (image term.now) codomain → Derives result []
         (nameless_equation codomain (app (lam domain (close name domain (image body))) (free name domain)) (image body)) }
 {
-    recorder.beta_known(alloc, term)
+    recorder.beta_known(term)
 }
 
 /// TRANS, of theorems that show sequents. Compares the middle terms; for equations that a proof shows to fit, `trans_known`.
-pub fn trans(
-    recorder: &mut Recorder,
-    alloc: Global,
-    first: &Rec,
-    second: &Rec,
-) -> Result<Rec, Fault>
+pub fn trans(recorder: &mut Recorder, first: &Rec, second: &Rec) -> Result<Rec, Fault>
     requires first { IsMade recorder.old first.now }
     requires second { IsMade recorder.old second.now }
     ensures continues { Continues recorder.old recorder.new result }
@@ -101,16 +95,11 @@ pub fn trans(
 {
     let _first = recorder.thm(first).concl();
     let _second = recorder.thm(second).concl();
-    recorder.trans(alloc, first, second)
+    recorder.trans(first, second)
 }
 
 /// TRANS, of equations that fit, whose middle terms are not compared for it.
-pub fn trans_known(
-    recorder: &mut Recorder,
-    alloc: Global,
-    first: &Rec,
-    second: &Rec,
-) -> Result<Rec, Fault>
+pub fn trans_known(recorder: &mut Recorder, first: &Rec, second: &Rec) -> Result<Rec, Fault>
     requires first { IsMade recorder.old first.now }
     requires second { IsMade recorder.old second.now }
     requires fits { TransFits first.now.theorem second.now.theorem }
@@ -121,17 +110,12 @@ pub fn trans_known(
 {
     let _first = recorder.thm(first).concl();
     let _second = recorder.thm(second).concl();
-    recorder.trans_known(alloc, first, second)
+    recorder.trans_known(first, second)
 }
 
 /// EQ_MP, of theorems that show sequents. Compares the left side with the second conclusion; for premises that a proof
 /// shows to fit, `eq_mp_known`.
-pub fn eq_mp(
-    recorder: &mut Recorder,
-    alloc: Global,
-    first: &Rec,
-    second: &Rec,
-) -> Result<Rec, Fault>
+pub fn eq_mp(recorder: &mut Recorder, first: &Rec, second: &Rec) -> Result<Rec, Fault>
     requires first { IsMade recorder.old first.now }
     requires second { IsMade recorder.old second.now }
     ensures continues { Continues recorder.old recorder.new result }
@@ -140,16 +124,11 @@ pub fn eq_mp(
 {
     let _first = recorder.thm(first).concl();
     let _second = recorder.thm(second).concl();
-    recorder.eq_mp(alloc, first, second)
+    recorder.eq_mp(first, second)
 }
 
 /// EQ_MP, of an equation and its left side, which are not compared for it.
-pub fn eq_mp_known(
-    recorder: &mut Recorder,
-    alloc: Global,
-    first: &Rec,
-    second: &Rec,
-) -> Result<Rec, Fault>
+pub fn eq_mp_known(recorder: &mut Recorder, first: &Rec, second: &Rec) -> Result<Rec, Fault>
     requires first { IsMade recorder.old first.now }
     requires second { IsMade recorder.old second.now }
     requires fits { EqMpFits first.now.theorem second.now.theorem }
@@ -159,16 +138,11 @@ pub fn eq_mp_known(
 {
     let _first = recorder.thm(first).concl();
     let _second = recorder.thm(second).concl();
-    recorder.eq_mp_known(alloc, first, second)
+    recorder.eq_mp_known(first, second)
 }
 
 /// MK_COMB, of theorems that show sequents.
-pub fn mk_comb(
-    recorder: &mut Recorder,
-    alloc: Global,
-    first: &Rec,
-    second: &Rec,
-) -> Result<Rec, Fault>
+pub fn mk_comb(recorder: &mut Recorder, first: &Rec, second: &Rec) -> Result<Rec, Fault>
     requires first { IsMade recorder.old first.now }
     requires second { IsMade recorder.old second.now }
     ensures continues { Continues recorder.old recorder.new result }
@@ -181,16 +155,11 @@ pub fn mk_comb(
 {
     let _first = recorder.thm(first).concl();
     let _second = recorder.thm(second).concl();
-    recorder.mk_comb(alloc, first, second)
+    recorder.mk_comb(first, second)
 }
 
 /// DEDUCT_ANTISYM_RULE of theorems that show sequents: each hypothesis that is equal to the other conclusion goes.
-pub fn deduct_antisym(
-    recorder: &mut Recorder,
-    alloc: Global,
-    first: &Rec,
-    second: &Rec,
-) -> Result<Rec, Fault>
+pub fn deduct_antisym(recorder: &mut Recorder, first: &Rec, second: &Rec) -> Result<Rec, Fault>
     requires first { IsMade recorder.old first.now }
     requires second { IsMade recorder.old second.now }
     ensures continues { Continues recorder.old recorder.new result }
@@ -200,13 +169,12 @@ pub fn deduct_antisym(
 {
     let _first = recorder.thm(first).concl();
     let _second = recorder.thm(second).concl();
-    recorder.deduct_antisym(alloc, first, second)
+    recorder.deduct_antisym(first, second)
 }
 
 /// DEDUCT_ANTISYM_RULE, where the second theorem has no hypothesis but the first conclusion, which is not compared for it.
 pub fn deduct_antisym_known(
     recorder: &mut Recorder,
-    alloc: Global,
     first: &Rec,
     second: &Rec,
 ) -> Result<Rec, Fault>
@@ -220,16 +188,11 @@ pub fn deduct_antisym_known(
 {
     let _first = recorder.thm(first).concl();
     let _second = recorder.thm(second).concl();
-    recorder.deduct_antisym_known(alloc, first, second)
+    recorder.deduct_antisym_known(first, second)
 }
 
 /// ABS of a theorem that shows a sequent, over a variable of a known type that is free in no hypothesis.
-pub fn abs(
-    recorder: &mut Recorder,
-    alloc: Global,
-    binder: &Term,
-    premise: &Rec,
-) -> Result<Rec, Fault>
+pub fn abs(recorder: &mut Recorder, binder: &Term, premise: &Rec) -> Result<Rec, Fault>
     requires { IsMade recorder.old premise.now }
     ensures continues { Continues recorder.old recorder.new result }
     ensures concludes { IfOk result (λ made. (name : List ℕ) (domain codomain : HolType) (s t : Nameless) → image binder.now ≡ free name domain
@@ -240,13 +203,12 @@ pub fn abs(
         → Derives result h (nameless_equation (function_type domain codomain) (lam domain (close name domain s)) (lam domain (close name domain t))) }
 {
     let _premise = recorder.thm(premise).concl();
-    recorder.abs(alloc, binder, premise)
+    recorder.abs(binder, premise)
 }
 
 // INST, which walks the terms.
 pub(crate) fn inst(
     recorder: &mut Recorder,
-    alloc: Global,
     theta: &[(Term, Term)],
     premise: &Rec,
 ) -> Result<Rec, Fault>
@@ -255,13 +217,12 @@ pub(crate) fn inst(
     ensures derives { replacements_refusal recorder.old.theory theta.now ≡ None → (h : List Nameless) (c : Nameless) → Shows premise.now.theorem h c
         → DerivesInstance result (map (put_all theta.now) h) (put_all theta.now c) }
 {
-    recorder.inst(alloc, theta, premise)
+    recorder.inst(theta, premise)
 }
 
 // INST, by terms of the variables' types that the theory knows, which are not walked for it.
 pub(crate) fn inst_known(
     recorder: &mut Recorder,
-    alloc: Global,
     theta: &[(Term, Term)],
     premise: &Rec,
 ) -> Result<Rec, Fault>
@@ -271,13 +232,12 @@ pub(crate) fn inst_known(
     ensures derives { replacements_refusal recorder.old.theory theta.now ≡ None → (h : List Nameless) (c : Nameless) → Shows premise.now.theorem h c
         → DerivesInstance result (map (put_all theta.now) h) (put_all theta.now c) }
 {
-    recorder.inst_known(alloc, theta, premise)
+    recorder.inst_known(theta, premise)
 }
 
 // INST_TYPE, by known types.
 pub(crate) fn inst_type(
     recorder: &mut Recorder,
-    alloc: Global,
     theta: &[(Ty, Ty)],
     premise: &Rec,
 ) -> Result<Rec, Fault>
@@ -286,5 +246,5 @@ pub(crate) fn inst_type(
     ensures derives { type_replacements_refusal recorder.old.theory theta.now ≡ None → (h : List Nameless) (c : Nameless)
         → Shows premise.now.theorem h c → DerivesInstance result (map (instantiate_all theta.now) h) (instantiate_all theta.now c) }
 {
-    recorder.inst_type(alloc, theta, premise)
+    recorder.inst_type(theta, premise)
 }

@@ -10,7 +10,6 @@ ghost use Rattle.hol_goals.specs.Closing.{Closes};
 use hol_journal::{Rec, Recorder, journals_grow};
 use hol_just::Goal;
 use hol_model::Fault;
-use std::alloc::Global;
 
 // Whether the theorem achieves the goal, up to the names of bound variables.
 fn achieves(recorder: &Recorder, theorem: &Rec, goal: &Goal) -> bool
@@ -22,12 +21,7 @@ fn achieves(recorder: &Recorder, theorem: &Rec, goal: &Goal) -> bool
 /// The theorem of the goal's own term, from one that achieves the goal: by EQ_MP with REFL of the term. Refused: InvalidStep
 /// where it does not achieve the goal; TooLarge where the equation is; Memory.
 #[tactic(auto, using(crate::proofs::Closings::fails_test, crate::proofs::Closings::fails_refl, crate::proofs::Closings::closes))]
-pub fn closed(
-    recorder: &mut Recorder,
-    alloc: Global,
-    goal: &Goal,
-    theorem: &Rec,
-) -> Result<Rec, Fault>
+pub fn closed(recorder: &mut Recorder, goal: &Goal, theorem: &Rec) -> Result<Rec, Fault>
     requires { IsMade recorder.old theorem.now }
     ensures outcome { Answers (theorem_in result) (closing_outcome recorder.old.theory (goal_of goal.now) theorem.now.theorem) }
     ensures continues { Closes recorder.old recorder.new result }
@@ -36,6 +30,6 @@ pub fn closed(
     if !achieves(recorder, theorem, goal) {
         return Err(Fault::InvalidStep);
     }
-    let same = recorder.refl(alloc, &goal.concl)?;
-    recorder.eq_mp(alloc, &same, theorem)
+    let same = recorder.refl(&goal.concl)?;
+    recorder.eq_mp(&same, theorem)
 }

@@ -91,9 +91,10 @@ fn is_formula(term: &Term) -> bool
 }
 
 // Whether a goal can be set: a known formula, whose equation with itself is within the limits.
-fn settable(alloc: Global, recorder: &Recorder, term: &Term) -> Result<(), Fault>
+fn settable(recorder: &Recorder, term: &Term) -> Result<(), Fault>
     ensures { IsDecided (states.set_outcome recorder.now.theory term.now) (states.begun (states.goal_of term.now)) result }
 {
+    let alloc = recorder.alloc();
     if !is_formula(term) {
         return Err(Fault::NotBool);
     }
@@ -135,7 +136,7 @@ impl Stack {
         ensures outcome { Changes result (states.set_outcome recorder.now.theory term.now) (states.set_stack (stack_of self.old)) (stack_of self.old) (stack_of self.new) }
         ensures made { (journal : Journal) → KeepsMade journal self.old → KeepsMade journal self.new }
     {
-        settable(alloc, recorder, term)?;
+        settable(recorder, term)?;
         let attempt = begun(alloc, term)?;
         self.attempt = Some(attempt);
         Ok(())

@@ -27,6 +27,7 @@ use std::marker::Model;
 /// that is handed in was made by this recorder.
 #[derive(Drop)]
 pub struct Recorder {
+    alloc: Global,
     theory: Theory,
     entries: KeptEntries,
 }
@@ -98,9 +99,15 @@ impl Recorder {
         ensures err { IfErr result (λ fault. fault ≡ Memory) }
     {
         Ok(Recorder {
+            alloc,
             theory: Theory::new(alloc)?,
             entries: KeptEntries::new(alloc),
         })
+    }
+
+    /// The allocator, for what is made beside theorems.
+    pub fn alloc(&self) -> Global {
+        self.alloc
     }
 
     /// The number of entries.
@@ -170,11 +177,12 @@ impl Recorder {
     }
 
     /// Defines a constant; the theorem is `|- c = t`, and stands on the theory with the definition.
-    pub fn define(&mut self, alloc: Global, name: &str, term: &Term) -> Result<Rec, Fault>
+    pub fn define(&mut self, name: &str, term: &Term) -> Result<Rec, Fault>
         ensures outcome { Answers (theorem_in result) (outcome.define_outcome self.old.theory name.now term.now) }
         ensures recorded { IfOk result (IsRecorded self.old self.new (steps.by_definition name.now term.now)) }
         ensures kept { OnErr result (self.new ≡ self.old) }
     {
+        let alloc = self.alloc();
         let definition = Entry::Defined(String::from_str(alloc, name)?, term.copy(alloc)?);
         if self.entries.reserve().is_err() {
             return Err(Fault::Memory);
@@ -192,12 +200,13 @@ impl Recorder {
     }
 
     /// Declares a type.
-    pub fn new_type(&mut self, alloc: Global, name: &str) -> Result<(), Fault>
+    pub fn new_type(&mut self, name: &str) -> Result<(), Fault>
         ensures outcome { Answers (leaving result self.new.theory) (outcome.new_type_outcome self.old.theory name.now) }
         ensures entry { OnOk result (self.new.entries ≡ self.old.entries ++ steps.declared_type name.now ∷ []) }
         ensures grown { OnOk result (IsGrown self.old self.new) }
         ensures kept { OnErr result (self.new ≡ self.old) }
     {
+        let alloc = self.alloc();
         let declared_type = Entry::DeclaredType(String::from_str(alloc, name)?);
         if self.entries.reserve().is_err() {
             return Err(Fault::Memory);
@@ -208,12 +217,13 @@ impl Recorder {
     }
 
     /// Declares a constant of a type without type variables.
-    pub fn new_const(&mut self, alloc: Global, name: &str, ty: &Ty) -> Result<(), Fault>
+    pub fn new_const(&mut self, name: &str, ty: &Ty) -> Result<(), Fault>
         ensures outcome { Answers (leaving result self.new.theory) (outcome.new_const_outcome self.old.theory name.now ty.now) }
         ensures entry { OnOk result (self.new.entries ≡ self.old.entries ++ steps.declared_constant name.now ty.now ∷ []) }
         ensures grown { OnOk result (IsGrown self.old self.new) }
         ensures kept { OnErr result (self.new ≡ self.old) }
     {
+        let alloc = self.alloc();
         let declared_constant = Entry::DeclaredConstant(
             String::from_str(alloc, name)?,
             ty.copy(alloc)?,

@@ -10,17 +10,12 @@ use crate::pruning::pruned;
 use hol_journal::Recorder;
 use hol_logtext::text_of_lines;
 use hol_model::{Fault, TEXT_BYTES_LIMIT};
-use std::alloc::Global;
 
 /// The text of the log of the claims, which `pruned` gives, within the limit on texts. Where each claim's name is an
 /// identifier, it is accepted, with these claims, over entries of the recorder's theory.
 ///
 /// Refusals: Memory, also where an entry that the log needs is not kept, and TooLong, where the text would be longer.
-pub fn log_text<'a>(
-    recorder: &'a Recorder,
-    alloc: Global,
-    claims: &[Claim<'a>],
-) -> Result<Vec<u8>, Fault>
+pub fn log_text<'a>(recorder: &'a Recorder, claims: &[Claim<'a>]) -> Result<Vec<u8>, Fault>
     requires { AreMade recorder.now (claims_of claims.now) }
     ensures pruned { IfOk result (λ text. IsPrunedText recorder.now (claims_of claims.now) text.items) }
     ensures accepted { HaveIdentifiers (claims_of claims.now) → IfOk result (λ text. IsLogOf recorder.now.theory text.items (claims_of claims.now)) }
@@ -28,6 +23,7 @@ pub fn log_text<'a>(
     ensures too_long { IsErrOf result TooLong → IsPastLimit recorder.now (claims_of claims.now) }
     ensures refusals { IfErr result (Contains (TooLong ∷ Memory ∷ [])) }
 {
-    let lines = pruned(recorder, alloc, claims)?;
+    let alloc = recorder.alloc();
+    let lines = pruned(recorder, claims)?;
     text_of_lines(alloc, &lines)
 }

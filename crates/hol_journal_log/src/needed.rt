@@ -61,16 +61,13 @@ impl<'a> Names<'a> {
 }
 
 /// Marks for the claimed entries, and for what marked entries cite. Refusal: Memory, also where a marked entry is not kept.
-pub(crate) fn cited(
-    alloc: Global,
-    recorder: &Recorder,
-    claimed: &[usize],
-) -> Result<Vec<bool>, Fault>
+pub(crate) fn cited(recorder: &Recorder, claimed: &[usize]) -> Result<Vec<bool>, Fault>
     requires earlier { StandOnEarlier recorder.now.entries }
     requires within { (number : ℕ) → IsMember number claimed.now → number < length recorder.now.entries }
     ensures ok { IfOk result (λ marks. AreCitedFrom recorder.now.entries claimed.now 0 marks.items) }
     ensures err { IfErr result (λ fault. fault ≡ Memory) }
 {
+    let alloc = recorder.alloc();
     let mut marks = marks_of(alloc, recorder.entries(), claimed)?;
     mark_cited(recorder, claimed, &mut marks)?;
     Ok(marks)

@@ -24,11 +24,7 @@ use std::alloc::Global;
 /// The log of the claims: the lines of the entries that they need, and of the claims. Where each claim's name is an
 /// identifier, the log is accepted, over entries of the recorder's theory. Refusal: Memory, also where an entry that it needs
 /// is not kept.
-pub fn pruned<'a>(
-    recorder: &'a Recorder,
-    alloc: Global,
-    claims: &[Claim<'a>],
-) -> Result<Vec<Line<'a>>, Fault>
+pub fn pruned<'a>(recorder: &'a Recorder, claims: &[Claim<'a>]) -> Result<Vec<Line<'a>>, Fault>
     requires { AreMade recorder.now (claims_of claims.now) }
     ensures lines { IfOk result (λ lines. IsPruned recorder.now (claims_of claims.now) (map line_of lines.items)) }
     ensures named { IfOk result (λ lines. HasNames (map line_of lines.items)) }
@@ -38,25 +34,22 @@ pub fn pruned<'a>(
     let _entry = recorder.stored(0);
     journal_logs_are_accepted();
     claims_fit(claims);
-    claims_log(recorder, alloc, claims)
+    claims_log(recorder, claims)
 }
 
-fn claims_log<'a>(
-    recorder: &'a Recorder,
-    alloc: Global,
-    claims: &[Claim<'a>],
-) -> Result<Vec<Line<'a>>, Fault>
+fn claims_log<'a>(recorder: &'a Recorder, claims: &[Claim<'a>]) -> Result<Vec<Line<'a>>, Fault>
     requires { AreMade recorder.now (claims_of claims.now) }
     ensures lines { IfOk result (λ lines. IsPruned recorder.now (claims_of claims.now) (map line_of lines.items)) }
     ensures named { IfOk result (λ lines. HasNames (map line_of lines.items)) }
     ensures err { IfErr result (λ fault. fault ≡ Memory) }
 {
+    let alloc = recorder.alloc();
     let _entry = recorder.stored(0);
     let claimed = cited_entries(alloc, claims)?;
-    let mut marks = cited(alloc, recorder, &claimed)?;
+    let mut marks = cited(recorder, &claimed)?;
     let mut writer = Writer::new(alloc);
-    write_needed(alloc, recorder, &claimed, &mut marks, &mut writer)?;
-    lines_written(alloc, recorder, &marks, claims, &mut writer)
+    write_needed(recorder, &claimed, &mut marks, &mut writer)?;
+    lines_written(recorder, &marks, claims, &mut writer)
 }
 
 // The theorems of claims are theorems, of formulas within the limits.
@@ -85,7 +78,6 @@ fn cited_entries(alloc: Global, claims: &[Claim<'_>]) -> Result<Vec<usize>, Faul
 // Writes the entries that the claimed ones need. The names that they mention are read off what is written, where each term
 // stands once. Mostly the entries that introduce these names are cited; else all is written again.
 fn write_needed<'a>(
-    alloc: Global,
     recorder: &'a Recorder,
     claimed: &[usize],
     marks: &mut Vec<bool>,
@@ -99,6 +91,7 @@ fn write_needed<'a>(
     ensures named { OnOk result (KeepsNames nothing_written (written writer.new)) }
     ensures err { IfErr result (λ fault. fault ≡ Memory) }
 {
+    let alloc = recorder.alloc();
     let mut names = Names::new(alloc);
     let mut is_more = false;
     writer.write_entries(alloc, recorder, marks)?;
@@ -113,7 +106,6 @@ fn write_needed<'a>(
 
 // Writes the claims behind the marked entries, and takes the lines.
 fn lines_written<'a>(
-    alloc: Global,
     recorder: &'a Recorder,
     marks: &[bool],
     claims: &[Claim<'a>],
@@ -125,6 +117,7 @@ fn lines_written<'a>(
     ensures named { IfOk result (λ lines. HasNames (map line_of lines.items)) }
     ensures err { IfErr result (λ fault. fault ≡ Memory) }
 {
+    let alloc = recorder.alloc();
     writer.write_claims(alloc, claims)?;
     writer.enclose(claims.len())?;
     Ok(writer.take_lines(alloc))

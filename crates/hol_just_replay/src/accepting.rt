@@ -28,7 +28,6 @@ use hol_model::Fault;
 use hol_prelude::{Bool, logic_stays};
 use hol_terms::Term;
 use hol_theorem_store::Store;
-use std::alloc::Global;
 
 // Whether the term is one of these or the goal assumes it, up to the names of bound variables.
 #[tactic(auto, using(crate::proofs::AcceptingLemmas::testing))]
@@ -69,7 +68,6 @@ fn achieves_under(recorder: &Recorder, theorem: &Rec, falsity: &Rec, goal: &Goal
 #[tactic(auto, using(crate::proofs::AcceptingLemmas::accepting))]
 fn replayed_under(
     recorder: &mut Recorder,
-    alloc: Global,
     logic: &Bool,
     store: &Store,
     step: &Step,
@@ -87,14 +85,13 @@ fn replayed_under(
     ensures refusals { IfErr result IsReplayRefusal }
 {
     logic_stays();
-    let subgoals = suppose_all(recorder, alloc, logic, falsity, are_known, &step.goals)?;
-    replayed(recorder, alloc, logic, store, &step.just, &subgoals)
+    let subgoals = suppose_all(recorder, logic, falsity, are_known, &step.goals)?;
+    replayed(recorder, logic, store, &step.just, &subgoals)
 }
 
 // Whether the step makes the goal, where its subgoals are supposed under the hypothesis of a theorem that says `F`.
 fn replay_passes(
     recorder: &mut Recorder,
-    alloc: Global,
     logic: &Bool,
     store: &Store,
     goal: &Goal,
@@ -111,7 +108,7 @@ fn replay_passes(
     ensures theory { recorder.new.theory ≡ recorder.old.theory }
     ensures answer { UnderFormula falsity.now.theorem (AnswersUnder recorder.old.theory (named_sequents (stored_of store.now)) (goal_of goal.now) (step_of step.now) result) }
 {
-    let theorem = replayed_under(recorder, alloc, logic, store, step, falsity, are_known)?;
+    let theorem = replayed_under(recorder, logic, store, step, falsity, are_known)?;
     if !achieves_under(recorder, &theorem, falsity, goal) {
         return Err(Fault::InvalidStep);
     }
@@ -122,7 +119,6 @@ fn replay_passes(
 #[tactic(auto, using(crate::proofs::AcceptingLemmas::accepting))]
 fn passes_once(
     recorder: &mut Recorder,
-    alloc: Global,
     logic: &Bool,
     store: &Store,
     goal: &Goal,
@@ -135,15 +131,14 @@ fn passes_once(
     ensures answer { AnswersUnder recorder.old.theory (named_sequents (stored_of store.now)) (goal_of goal.now) (step_of step.now) result false_term }
 {
     logic_stays();
-    let falsity = falsity_once(recorder, alloc, logic)?;
-    replay_passes(recorder, alloc, logic, store, goal, step, &falsity, false)
+    let falsity = falsity_once(recorder, logic)?;
+    replay_passes(recorder, logic, store, goal, step, &falsity, false)
 }
 
 // Whether the step, whose subgoals are of known formulas, passes under `F /\ F`.
 #[tactic(auto, using(crate::proofs::AcceptingLemmas::accepting))]
 fn passes_twice(
     recorder: &mut Recorder,
-    alloc: Global,
     logic: &Bool,
     store: &Store,
     goal: &Goal,
@@ -157,8 +152,8 @@ fn passes_twice(
     ensures answer { AnswersUnder recorder.old.theory (named_sequents (stored_of store.now)) (goal_of goal.now) (step_of step.now) result false_twice }
 {
     logic_stays();
-    let falsity = falsity_twice(recorder, alloc, logic)?;
-    replay_passes(recorder, alloc, logic, store, goal, step, &falsity, true)
+    let falsity = falsity_twice(recorder, logic)?;
+    replay_passes(recorder, logic, store, goal, step, &falsity, true)
 }
 
 /// The test of a step (HOL Light's `VALID`, tactics.ml, which makes one theorem up for each subgoal): its subgoals are of
@@ -168,7 +163,6 @@ fn passes_twice(
 #[tactic(auto, using(crate::proofs::AcceptingLemmas::accepting))]
 pub fn accept(
     recorder: &mut Recorder,
-    alloc: Global,
     logic: &Bool,
     store: &Store,
     goal: &Goal,
@@ -183,7 +177,7 @@ pub fn accept(
 {
     logic_stays();
     replays_show_valid();
-    passes_once(recorder, alloc, logic, store, goal, step)?;
-    passes_twice(recorder, alloc, logic, store, goal, step)?;
+    passes_once(recorder, logic, store, goal, step)?;
+    passes_twice(recorder, logic, store, goal, step)?;
     Ok(())
 }

@@ -19,7 +19,6 @@ use hol_just::Rule;
 use hol_model::Fault;
 use hol_prelude::Bool;
 use hol_quant::{choose, exists, generalize, spec};
-use std::alloc::Global;
 
 // The refusal of a rule that takes another number of premises.
 fn refuse(recorder: &mut Recorder) -> Result<Rec, Fault>
@@ -32,7 +31,7 @@ fn refuse(recorder: &mut Recorder) -> Result<Rec, Fault>
 
 // A rule without premises. Here and below a term's type and a premise's conclusion are read for what is known of them.
 #[tactic(auto, using(crate::proofs::Rooms::rooms_of_none))]
-fn on_none(recorder: &mut Recorder, alloc: Global, logic: &Bool, rule: &Rule) -> Result<Rec, Fault>
+fn on_none(recorder: &mut Recorder, logic: &Bool, rule: &Rule) -> Result<Rec, Fault>
     requires logic { HasLogic recorder.old logic.now }
     ensures continues { Continues recorder.old recorder.new result }
     ensures inferred { Infers recorder.old.theory (rule_of rule.now) [] (theorem_in result) }
@@ -44,21 +43,21 @@ fn on_none(recorder: &mut Recorder, alloc: Global, logic: &Bool, rule: &Rule) ->
     match rule {
         Rule::Refl(t) => {
             let _type = t.ty();
-            recorder.refl(alloc, t)
+            recorder.refl(t)
         }
         Rule::Beta(t) => {
             let _type = t.ty();
-            recorder.beta(alloc, t)
+            recorder.beta(t)
         }
         Rule::Assume(p) => {
             let _type = p.ty();
-            recorder.assume(alloc, p)
+            recorder.assume(p)
         }
-        Rule::EtaAxiom => recorder.eta(alloc),
-        Rule::SelectAxiom => recorder.select(alloc),
+        Rule::EtaAxiom => recorder.eta(),
+        Rule::SelectAxiom => recorder.select(),
         Rule::BetaConv(t) => {
             let _type = t.ty();
-            beta_conv(recorder, alloc, t)
+            beta_conv(recorder, t)
         }
         _ => refuse(recorder),
     }
@@ -66,13 +65,7 @@ fn on_none(recorder: &mut Recorder, alloc: Global, logic: &Bool, rule: &Rule) ->
 
 // A rule of one premise.
 #[tactic(auto, using(crate::proofs::Rooms::rooms_of_one))]
-fn on_one(
-    recorder: &mut Recorder,
-    alloc: Global,
-    logic: &Bool,
-    rule: &Rule,
-    premise: &Rec,
-) -> Result<Rec, Fault>
+fn on_one(recorder: &mut Recorder, logic: &Bool, rule: &Rule, premise: &Rec) -> Result<Rec, Fault>
     requires logic { HasLogic recorder.old logic.now }
     requires premise { IsMade recorder.old premise.now }
     ensures continues { Continues recorder.old recorder.new result }
@@ -83,46 +76,46 @@ fn on_one(
     let _premise = conclusion_of(recorder, premise);
     primitive_rules_infer();
     match rule {
-        Rule::Abs(x) => recorder.abs(alloc, x, premise),
-        Rule::Inst(theta) => recorder.inst(alloc, theta, premise),
-        Rule::InstType(theta) => recorder.inst_type(alloc, theta, premise),
-        Rule::Sym => sym(recorder, alloc, premise),
+        Rule::Abs(x) => recorder.abs(x, premise),
+        Rule::Inst(theta) => recorder.inst(theta, premise),
+        Rule::InstType(theta) => recorder.inst_type(theta, premise),
+        Rule::Sym => sym(recorder, premise),
         Rule::AddAssum(p) => {
             let _type = p.ty();
-            add_assum(recorder, alloc, p, premise)
+            add_assum(recorder, p, premise)
         }
-        Rule::EqtIntro => eqt_intro(recorder, alloc, logic, premise),
-        Rule::EqtElim => eqt_elim(recorder, alloc, logic, premise),
-        Rule::Conjunct1 => conjunct1(recorder, alloc, logic, premise),
-        Rule::Conjunct2 => conjunct2(recorder, alloc, logic, premise),
+        Rule::EqtIntro => eqt_intro(recorder, logic, premise),
+        Rule::EqtElim => eqt_elim(recorder, logic, premise),
+        Rule::Conjunct1 => conjunct1(recorder, logic, premise),
+        Rule::Conjunct2 => conjunct2(recorder, logic, premise),
         Rule::Disch(p) => {
             let _type = p.ty();
-            disch(recorder, alloc, logic, p, premise)
+            disch(recorder, logic, p, premise)
         }
-        Rule::Undisch => undisch(recorder, alloc, logic, premise),
+        Rule::Undisch => undisch(recorder, logic, premise),
         Rule::Spec(t) => {
             let _type = t.ty();
-            spec(recorder, alloc, logic, t, premise)
+            spec(recorder, logic, t, premise)
         }
-        Rule::Gen(x) => generalize(recorder, alloc, logic, x, premise),
+        Rule::Gen(x) => generalize(recorder, logic, x, premise),
         Rule::Disj1(q) => {
             let _type = q.ty();
-            disj1(recorder, alloc, logic, q, premise)
+            disj1(recorder, logic, q, premise)
         }
         Rule::Disj2(p) => {
             let _type = p.ty();
-            disj2(recorder, alloc, logic, p, premise)
+            disj2(recorder, logic, p, premise)
         }
         Rule::Contr(p) => {
             let _type = p.ty();
-            contr(recorder, alloc, logic, p, premise)
+            contr(recorder, logic, p, premise)
         }
-        Rule::NotIntro => not_intro(recorder, alloc, logic, premise),
-        Rule::NotElim => not_elim(recorder, alloc, logic, premise),
+        Rule::NotIntro => not_intro(recorder, logic, premise),
+        Rule::NotElim => not_elim(recorder, logic, premise),
         Rule::Exists(formula, witness) => {
             let _formula = formula.ty();
             let _witness = witness.ty();
-            exists(recorder, alloc, logic, formula, witness, premise)
+            exists(recorder, logic, formula, witness, premise)
         }
         _ => refuse(recorder),
     }
@@ -132,7 +125,6 @@ fn on_one(
 #[tactic(auto, using(crate::proofs::Rooms::rooms_of_two))]
 fn on_two(
     recorder: &mut Recorder,
-    alloc: Global,
     logic: &Bool,
     rule: &Rule,
     first: &Rec,
@@ -150,14 +142,14 @@ fn on_two(
     let _second = conclusion_of(recorder, second);
     primitive_rules_infer();
     match rule {
-        Rule::Trans => recorder.trans(alloc, first, second),
-        Rule::MkComb => recorder.mk_comb(alloc, first, second),
-        Rule::EqMp => recorder.eq_mp(alloc, first, second),
-        Rule::DeductAntisym => recorder.deduct_antisym(alloc, first, second),
-        Rule::ProveHyp => prove_hyp(recorder, alloc, first, second),
-        Rule::Conj => conj(recorder, alloc, logic, first, second),
-        Rule::Mp => mp(recorder, alloc, logic, first, second),
-        Rule::Choose(v) => choose(recorder, alloc, logic, v, first, second),
+        Rule::Trans => recorder.trans(first, second),
+        Rule::MkComb => recorder.mk_comb(first, second),
+        Rule::EqMp => recorder.eq_mp(first, second),
+        Rule::DeductAntisym => recorder.deduct_antisym(first, second),
+        Rule::ProveHyp => prove_hyp(recorder, first, second),
+        Rule::Conj => conj(recorder, logic, first, second),
+        Rule::Mp => mp(recorder, logic, first, second),
+        Rule::Choose(v) => choose(recorder, logic, v, first, second),
         _ => refuse(recorder),
     }
 }
@@ -166,7 +158,6 @@ fn on_two(
 #[tactic(auto, using(crate::proofs::Rooms::rooms_of_three))]
 fn on_three(
     recorder: &mut Recorder,
-    alloc: Global,
     logic: &Bool,
     rule: &Rule,
     first: &Rec,
@@ -184,7 +175,7 @@ fn on_three(
 {
     let _first = conclusion_of(recorder, first);
     match rule {
-        Rule::DisjCases => disj_cases(recorder, alloc, logic, first, second, third),
+        Rule::DisjCases => disj_cases(recorder, logic, first, second, third),
         _ => refuse(recorder),
     }
 }
@@ -209,7 +200,6 @@ fn refuse_many(recorder: &mut Recorder, rule: &Rule, premises: &[&Rec]) -> Resul
 /// room.
 pub fn apply_rule(
     recorder: &mut Recorder,
-    alloc: Global,
     logic: &Bool,
     rule: &Rule,
     premises: &[&Rec],
@@ -222,10 +212,10 @@ pub fn apply_rule(
     ensures outcome { AnswersBy recorder.old.theory (rule_of rule.now) (lent_theorems premises.now) (theorem_in result) }
 {
     match premises {
-        [] => on_none(recorder, alloc, logic, rule),
-        [premise] => on_one(recorder, alloc, logic, rule, premise),
-        [first, second] => on_two(recorder, alloc, logic, rule, first, second),
-        [first, second, third] => on_three(recorder, alloc, logic, rule, first, second, third),
+        [] => on_none(recorder, logic, rule),
+        [premise] => on_one(recorder, logic, rule, premise),
+        [first, second] => on_two(recorder, logic, rule, first, second),
+        [first, second, third] => on_three(recorder, logic, rule, first, second, third),
         _ => refuse_many(recorder, rule, premises),
     }
 }

@@ -80,7 +80,6 @@ fn premise(answers: &[LineAnswer], place: usize) -> Result<&Rec, LineAnswer>
 #[tactic(auto, using(crate::proofs::Replaying::continued))]
 fn by_rule(
     recorder: &mut Recorder,
-    alloc: Global,
     logic: &Bool,
     rule: &Rule,
     premises: &[&Rec],
@@ -91,14 +90,13 @@ fn by_rule(
     ensures applied { IfOk result (Applies recorder.old.theory (rule_of rule.now) (lent_theorems premises.now)) }
     ensures err { IfErr result (λ fault. fault ≡ Memory) }
 {
-    let outcome = apply_rule(recorder, alloc, logic, rule, premises);
+    let outcome = apply_rule(recorder, logic, rule, premises);
     answered(outcome)
 }
 
 // What a rule draws from the lines at these places.
 fn rule_answer(
     recorder: &mut Recorder,
-    alloc: Global,
     logic: &Bool,
     rule: &Rule,
     answers: &[LineAnswer],
@@ -116,27 +114,27 @@ fn rule_answer(
         return kept(recorder, LineAnswer::Invalid);
     }
     if count == 0 {
-        return by_rule(recorder, alloc, logic, rule, &[]);
+        return by_rule(recorder, logic, rule, &[]);
     }
     let first = match premise(answers, places[0]) {
         Ok(first) => first,
         Err(answer) => return kept(recorder, answer),
     };
     if count == 1 {
-        return by_rule(recorder, alloc, logic, rule, &[first]);
+        return by_rule(recorder, logic, rule, &[first]);
     }
     let second = match premise(answers, places[1]) {
         Ok(second) => second,
         Err(answer) => return kept(recorder, answer),
     };
     if count == 2 {
-        return by_rule(recorder, alloc, logic, rule, &[first, second]);
+        return by_rule(recorder, logic, rule, &[first, second]);
     }
     let third = match premise(answers, places[2]) {
         Ok(third) => third,
         Err(answer) => return kept(recorder, answer),
     };
-    by_rule(recorder, alloc, logic, rule, &[first, second, third])
+    by_rule(recorder, logic, rule, &[first, second, third])
 }
 
 // A subgoal's theorem.
@@ -152,16 +150,13 @@ fn subgoal_at(subgoals: &[Rec], number: usize) -> Option<&Rec>
 
 // A line that names a theorem.
 #[tactic(auto, using(crate::proofs::Replaying::naming))]
-fn named_answer(
-    recorder: &mut Recorder,
-    alloc: Global,
-    found: Option<&Rec>,
-) -> Result<LineAnswer, Fault>
+fn named_answer(recorder: &mut Recorder, found: Option<&Rec>) -> Result<LineAnswer, Fault>
     requires { IfSome found (λ theorem. IsMade recorder.old theorem.now) }
     ensures continues { ContinuesLine recorder.old recorder.new result }
     ensures named { IfOk result (IsNamed (option_map (λ theorem. theorem.now) found.entry)) }
     ensures err { IfErr result (λ fault. fault ≡ Memory) }
 {
+    let alloc = recorder.alloc();
     let _entries = recorder.entries();
     match found {
         Some(theorem) => match theorem.copy(alloc) {
@@ -175,7 +170,6 @@ fn named_answer(
 // What a line comes to, after lines that came to these answers.
 fn line_answer(
     recorder: &mut Recorder,
-    alloc: Global,
     logic: &Bool,
     store: &Store,
     subgoals: &[Rec],
@@ -192,10 +186,10 @@ fn line_answer(
     ensures err { IfErr result (λ fault. fault ≡ Memory) }
 {
     match line {
-        Line::Sub(number) => named_answer(recorder, alloc, subgoal_at(subgoals, *number)),
-        Line::Named(name) => named_answer(recorder, alloc, store.get(name)),
-        Line::Lemma(number) => named_answer(recorder, alloc, store.lemma(*number)),
-        Line::ByRule(rule, places) => rule_answer(recorder, alloc, logic, rule, answers, places),
+        Line::Sub(number) => named_answer(recorder, subgoal_at(subgoals, *number)),
+        Line::Named(name) => named_answer(recorder, store.get(name)),
+        Line::Lemma(number) => named_answer(recorder, store.lemma(*number)),
+        Line::ByRule(rule, places) => rule_answer(recorder, logic, rule, answers, places),
     }
 }
 
@@ -211,7 +205,6 @@ fn pushed(answers: &mut Vec<LineAnswer>, answer: LineAnswer) -> Result<(), Fault
 // What the lines come to, one after another.
 fn line_answers(
     recorder: &mut Recorder,
-    alloc: Global,
     logic: &Bool,
     store: &Store,
     subgoals: &[Rec],
@@ -226,10 +219,11 @@ fn line_answers(
     ensures replayed { IfOk result (λ answers. IsReplaying recorder.old recorder.new (expected_in recorder.old.theory (stored_of store.now) subgoals.now) [] (flat_lines lines.now) answers.items) }
     ensures err { IfErr result (λ fault. fault ≡ Memory) }
 {
+    let alloc = recorder.alloc();
     logic_stays();
     let mut answers = Vec::new(alloc);
     for line in lines {
-        let answer = line_answer(recorder, alloc, logic, store, subgoals, &answers, line)?;
+        let answer = line_answer(recorder, logic, store, subgoals, &answers, line)?;
         pushed(&mut answers, answer)?;
     }
     Ok(answers)
@@ -238,7 +232,6 @@ fn line_answers(
 // The theorem of a justification, or why there is none.
 pub(crate) fn replayed(
     recorder: &mut Recorder,
-    alloc: Global,
     logic: &Bool,
     store: &Store,
     just: &Just,
@@ -253,9 +246,10 @@ pub(crate) fn replayed(
     ensures met { Meets (expected_in recorder.old.theory (stored_of store.now) subgoals.now (tree_of just.now)) (theorem_in result) }
     ensures refusals { IfErr result IsReplayRefusal }
 {
+    let alloc = recorder.alloc();
     let lines = just.lines();
     let root = just.root();
-    let answers = line_answers(recorder, alloc, logic, store, subgoals, lines)?;
+    let answers = line_answers(recorder, logic, store, subgoals, lines)?;
     finished(alloc, &answers, root)
 }
 
@@ -278,7 +272,6 @@ fn finished(alloc: Global, answers: &[LineAnswer], root: usize) -> Result<Rec, F
 /// TooLarge only where a term that the tree's rules take, or of the sequent of a part, leaves no room; Memory.
 pub fn replay(
     recorder: &mut Recorder,
-    alloc: Global,
     logic: &Bool,
     store: &Store,
     just: &Just,
@@ -292,5 +285,5 @@ pub fn replay(
     ensures made { IfOk result (IsMade recorder.new) }
     ensures answer { IsReplay recorder.old.theory (theorems_in (stored_of store.now)) (sequents_of subgoals.now) (tree_of just.now) (theorem_in result) }
 {
-    replayed(recorder, alloc, logic, store, just, subgoals)
+    replayed(recorder, logic, store, just, subgoals)
 }

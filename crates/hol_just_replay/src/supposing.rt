@@ -42,70 +42,62 @@ fn falsity(alloc: Global) -> Result<Term, Fault>
 
 // From `F`, `F`.
 #[tactic(auto, using(crate::proofs::SupposingLemmas::supposing))]
-pub(crate) fn falsity_once(
-    recorder: &mut Recorder,
-    alloc: Global,
-    logic: &Bool,
-) -> Result<Rec, Fault>
+pub(crate) fn falsity_once(recorder: &mut Recorder, logic: &Bool) -> Result<Rec, Fault>
     requires logic { HasLogic recorder.old logic.now }
     ensures continues { Continues recorder.old recorder.new result }
     ensures drawn { IsDrawn (Some (falsity_from false_term)) (theorem_in result) }
     ensures fits { IsNotLarge (theorem_in result) }
 {
+    let alloc = recorder.alloc();
     let _logic = logic;
     recorder.theory_is_legal();
     let term = falsity(alloc)?;
-    assume(recorder, alloc, &term)
+    assume(recorder, &term)
 }
 
 // From `F`, `F /\ F`.
 #[tactic(auto, using(crate::proofs::SupposingLemmas::supposing))]
-fn conjoined(recorder: &mut Recorder, alloc: Global, logic: &Bool) -> Result<Rec, Fault>
+fn conjoined(recorder: &mut Recorder, logic: &Bool) -> Result<Rec, Fault>
     requires logic { HasLogic recorder.old logic.now }
     ensures continues { Continues recorder.old recorder.new result }
     ensures drawn { IsDrawn (Some (record { hypotheses = false_term ∷ []; conclusion = false_twice })) (theorem_in result) }
     ensures fits { IsNotLarge (theorem_in result) }
 {
     logic_stays();
-    let once = falsity_once(recorder, alloc, logic)?;
-    conj(recorder, alloc, logic, &once, &once)
+    let once = falsity_once(recorder, logic)?;
+    conj(recorder, logic, &once, &once)
 }
 
 // From `F /\ F`, `F /\ F`.
 #[tactic(auto, using(crate::proofs::SupposingLemmas::supposing))]
-fn conjunction_assumed(recorder: &mut Recorder, alloc: Global, logic: &Bool) -> Result<Rec, Fault>
+fn conjunction_assumed(recorder: &mut Recorder, logic: &Bool) -> Result<Rec, Fault>
     requires logic { HasLogic recorder.old logic.now }
     ensures continues { Continues recorder.old recorder.new result }
     ensures drawn { IsDrawn (Some (record { hypotheses = false_twice ∷ []; conclusion = false_twice })) (theorem_in result) }
     ensures fits { IsNotLarge (theorem_in result) }
 {
-    let conjoined = conjoined(recorder, alloc, logic)?;
+    let conjoined = conjoined(recorder, logic)?;
     let term = conclusion_of(recorder, &conjoined);
-    assume(recorder, alloc, term)
+    assume(recorder, term)
 }
 
 // From `F /\ F`, `F`.
 #[tactic(auto, using(crate::proofs::SupposingLemmas::supposing))]
-pub(crate) fn falsity_twice(
-    recorder: &mut Recorder,
-    alloc: Global,
-    logic: &Bool,
-) -> Result<Rec, Fault>
+pub(crate) fn falsity_twice(recorder: &mut Recorder, logic: &Bool) -> Result<Rec, Fault>
     requires logic { HasLogic recorder.old logic.now }
     ensures continues { Continues recorder.old recorder.new result }
     ensures drawn { IsDrawn (Some (falsity_from false_twice)) (theorem_in result) }
     ensures fits { IsNotLarge (theorem_in result) }
 {
     logic_stays();
-    let assumed = conjunction_assumed(recorder, alloc, logic)?;
+    let assumed = conjunction_assumed(recorder, logic)?;
     let _conclusion = conclusion_of(recorder, &assumed);
-    conjunct1(recorder, alloc, logic, &assumed)
+    conjunct1(recorder, logic, &assumed)
 }
 
 // CONTR, which walks the formula unless it is known.
 fn contr_unless_known(
     recorder: &mut Recorder,
-    alloc: Global,
     logic: &Bool,
     is_known: bool,
     p: &Term,
@@ -119,15 +111,14 @@ fn contr_unless_known(
     ensures inferred { Infers recorder.old.theory (rule_contr p.now) (premise.now.theorem ∷ []) (theorem_in result) }
 {
     if is_known {
-        return contr_known(recorder, alloc, logic, p, premise);
+        return contr_known(recorder, logic, p, premise);
     }
-    contr(recorder, alloc, logic, p, premise)
+    contr(recorder, logic, p, premise)
 }
 
 // ADD_ASSUM, which walks the formula unless it is known.
 fn add_assum_unless_known(
     recorder: &mut Recorder,
-    alloc: Global,
     is_known: bool,
     p: &Term,
     premise: &Rec,
@@ -139,15 +130,14 @@ fn add_assum_unless_known(
     ensures inferred { Infers recorder.old.theory (rule_add_assum p.now) (premise.now.theorem ∷ []) (theorem_in result) }
 {
     if is_known {
-        return add_assum_known(recorder, alloc, p, premise);
+        return add_assum_known(recorder, p, premise);
     }
-    add_assum(recorder, alloc, p, premise)
+    add_assum(recorder, p, premise)
 }
 
 // A theorem under further assumptions.
 fn with_assumptions(
     recorder: &mut Recorder,
-    alloc: Global,
     are_known: bool,
     assumptions: &[Term],
     mut theorem: Rec,
@@ -159,7 +149,7 @@ fn with_assumptions(
     ensures fits { are_roomy (terms_of_theorem theorem.theorem) ≡ true → are_roomy (map image assumptions.now) ≡ true → IsNotLarge (theorem_in result) }
 {
     for p in assumptions {
-        theorem = add_assum_unless_known(recorder, alloc, are_known, p, &theorem)?;
+        theorem = add_assum_unless_known(recorder, are_known, p, &theorem)?;
     }
     Ok(theorem)
 }
@@ -168,7 +158,6 @@ fn with_assumptions(
 #[tactic(auto, using(crate::proofs::SupposingLemmas::supposing))]
 fn supposed_from(
     recorder: &mut Recorder,
-    alloc: Global,
     logic: &Bool,
     falsity: &Rec,
     is_known: bool,
@@ -182,8 +171,8 @@ fn supposed_from(
     ensures drawn { IsDrawn (supposed_from recorder.old.theory (map image falsity.now.theorem.hypotheses) (goal_of goal.now)) (theorem_in result) }
     ensures fits { HasGoalRoom falsity.now.theorem (goal_of goal.now) → IsNotLarge (theorem_in result) }
 {
-    let theorem = contr_unless_known(recorder, alloc, logic, is_known, &goal.concl, falsity)?;
-    with_assumptions(recorder, alloc, is_known, &goal.asms, theorem)
+    let theorem = contr_unless_known(recorder, logic, is_known, &goal.concl, falsity)?;
+    with_assumptions(recorder, is_known, &goal.asms, theorem)
 }
 
 // A refusal of a goal's sequent, as one of the step.
@@ -202,7 +191,6 @@ fn refusal(fault: Fault) -> Fault
 // A goal's sequent, or the refusal of the step.
 fn suppose_one(
     recorder: &mut Recorder,
-    alloc: Global,
     logic: &Bool,
     falsity: &Rec,
     is_known: bool,
@@ -219,7 +207,7 @@ fn suppose_one(
     ensures err { IfErr result (IsUnsupposed (is_known_goal recorder.old.theory (goal_of goal.now))) }
     ensures fits { HasGoalRoom falsity.now.theorem (goal_of goal.now) → IsNotLarge result }
 {
-    match supposed_from(recorder, alloc, logic, falsity, is_known, goal) {
+    match supposed_from(recorder, logic, falsity, is_known, goal) {
         Ok(made) => Ok(made),
         Err(fault) => Err(refusal(fault)),
     }
@@ -237,7 +225,6 @@ fn pushed(theorems: &mut Vec<Rec>, theorem: Rec) -> Result<(), Fault>
 // Each goal's sequent, under the hypotheses of a theorem that says `F`.
 pub(crate) fn suppose_all(
     recorder: &mut Recorder,
-    alloc: Global,
     logic: &Bool,
     falsity: &Rec,
     are_known: bool,
@@ -254,10 +241,11 @@ pub(crate) fn suppose_all(
     ensures err { IfErr result (IsUnsupposed (are_known_goals recorder.old.theory (goals_of goals.now))) }
     ensures fits { are_roomy (terms_of_theorem falsity.now.theorem) ≡ true → are_roomy (terms_of_goals (goals_of goals.now)) ≡ true → IsNotLarge result }
 {
+    let alloc = recorder.alloc();
     logic_stays();
     let mut theorems = Vec::new(alloc);
     for goal in goals {
-        let theorem = suppose_one(recorder, alloc, logic, falsity, are_known, goal)?;
+        let theorem = suppose_one(recorder, logic, falsity, are_known, goal)?;
         pushed(&mut theorems, theorem)?;
     }
     Ok(theorems)

@@ -14,7 +14,6 @@ use crate::stages::with_conjunction;
 use crate::tables::{BEHIND_LAWS, FIRST_LAW};
 use hol_journal::{Rec, Recorder};
 use hol_model::Fault;
-use std::alloc::Global;
 
 /// The stored theorems T_DEF, AND_DEF, IMP_DEF, FORALL_DEF, EXISTS_DEF, OR_DEF, F_DEF, NOT_DEF and TRUTH, the theorems
 /// from which rules are made, ETA_AX, SELECT_AX, EXCLUDED_MIDDLE and `T /\ T`.
@@ -43,7 +42,7 @@ fn without_laws(mut all: Vec<Rec>) -> Vec<Rec>
 
 /// The logical constants, defined over a theory without definitions, and the theorems of the prelude. It is refused
 /// where there is no memory, and for no other reason.
-pub fn prelude(recorder: &mut Recorder, alloc: Global) -> Result<Bool, Fault>
+pub fn prelude(recorder: &mut Recorder) -> Result<Bool, Fault>
     requires new { recorder.old.theory ≡ [] }
     ensures ok { IfOk result (λ bool. theorems bool.theorems.items ≡ prelude_theorems) }
     ensures made { IfOk result (λ bool. AreMade recorder.new bool.theorems.items) }
@@ -52,7 +51,7 @@ pub fn prelude(recorder: &mut Recorder, alloc: Global) -> Result<Bool, Fault>
     ensures err { IfErr result (λ fault. fault ≡ Memory) }
     ensures grown { IsGrown recorder.old recorder.new }
 {
-    let all = with_conjunction(recorder, alloc)?;
+    let all = with_conjunction(recorder)?;
     Ok(Bool {
         theorems: without_laws(all),
     })

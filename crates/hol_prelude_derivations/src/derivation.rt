@@ -13,7 +13,6 @@ use crate::sketch::{TermSketch, TypeSketch, term_of, type_of};
 use hol_journal::{Rec, Recorder};
 use hol_model::Fault;
 use hol_terms::Term;
-use std::alloc::Global;
 
 /// A derivation from earlier theorems.
 #[derive(Clone, Copy)]
@@ -42,7 +41,6 @@ pub enum Derivation<'a> {
 #[tactic(auto, using(crate::proofs::DerivationLemmas::still_all_made, crate::proofs::DerivationLemmas::still_made))]
 pub(crate) fn derive(
     recorder: &mut Recorder,
-    alloc: Global,
     earlier: &[Rec],
     derivation: &Derivation<'_>,
 ) -> Result<Rec, Fault>
@@ -51,52 +49,48 @@ pub(crate) fn derive(
     ensures goes_on { GoesOn recorder.old recorder.new result }
 {
     match derivation {
-        Derivation::Earlier(number) => earlier_theorem(recorder, alloc, earlier, *number),
-        Derivation::Axiom(rule) => by_axiom(recorder, alloc, *rule),
-        Derivation::Term(rule, term) => by_term(recorder, alloc, *rule, term),
+        Derivation::Earlier(number) => earlier_theorem(recorder, earlier, *number),
+        Derivation::Axiom(rule) => by_axiom(recorder, *rule),
+        Derivation::Term(rule, term) => by_term(recorder, *rule, term),
         Derivation::Pair(rule, first, second) => {
-            let first = derive(recorder, alloc, earlier, first)?;
-            let second = derive(recorder, alloc, earlier, second)?;
-            by_pair(recorder, alloc, *rule, &first, &second)
+            let first = derive(recorder, earlier, first)?;
+            let second = derive(recorder, earlier, second)?;
+            by_pair(recorder, *rule, &first, &second)
         }
         Derivation::Sym(theorem) => {
-            let theorem = derive(recorder, alloc, earlier, theorem)?;
-            by_sym(recorder, alloc, &theorem)
+            let theorem = derive(recorder, earlier, theorem)?;
+            by_sym(recorder, &theorem)
         }
         Derivation::ApTerm(function, theorem) => {
-            let theorem = derive(recorder, alloc, earlier, theorem)?;
-            by_ap_term(recorder, alloc, function, &theorem)
+            let theorem = derive(recorder, earlier, theorem)?;
+            by_ap_term(recorder, function, &theorem)
         }
         Derivation::ApThm(theorem, argument) => {
-            let theorem = derive(recorder, alloc, earlier, theorem)?;
-            by_ap_thm(recorder, alloc, &theorem, argument)
+            let theorem = derive(recorder, earlier, theorem)?;
+            by_ap_thm(recorder, &theorem, argument)
         }
         Derivation::Abs(variable, theorem) => {
-            let theorem = derive(recorder, alloc, earlier, theorem)?;
-            by_abs(recorder, alloc, variable, &theorem)
+            let theorem = derive(recorder, earlier, theorem)?;
+            by_abs(recorder, variable, &theorem)
         }
         Derivation::Inst(new, old, theorem, conclusion) => {
-            let theorem = derive(recorder, alloc, earlier, theorem)?;
-            by_inst(recorder, alloc, new, old, &theorem, conclusion)
+            let theorem = derive(recorder, earlier, theorem)?;
+            by_inst(recorder, new, old, &theorem, conclusion)
         }
         Derivation::InstType(new, old, theorem, conclusion) => {
-            let theorem = derive(recorder, alloc, earlier, theorem)?;
-            by_inst_type(recorder, alloc, new, old, &theorem, conclusion)
+            let theorem = derive(recorder, earlier, theorem)?;
+            by_inst_type(recorder, new, old, &theorem, conclusion)
         }
     }
 }
 
 // The earlier theorem of this number.
-fn earlier_theorem(
-    _recorder: &mut Recorder,
-    alloc: Global,
-    earlier: &[Rec],
-    number: usize,
-) -> Result<Rec, Fault>
+fn earlier_theorem(_recorder: &mut Recorder, earlier: &[Rec], number: usize) -> Result<Rec, Fault>
     requires { AreMade _recorder.old earlier.now }
     ensures outcome { Answers (theorem_in result) (given (slice_get (theorems earlier.now) number) BadShape (λ theorem. Ok theorem)) }
     ensures goes_on { GoesOn _recorder.old _recorder.new result }
 {
+    let alloc = _recorder.alloc();
     match earlier.get(number) {
         Some(theorem) => theorem.copy(alloc),
         None => Err(Fault::BadShape),
@@ -104,60 +98,50 @@ fn earlier_theorem(
 }
 
 // ETA or SELECT.
-fn by_axiom(recorder: &mut Recorder, alloc: Global, rule: Axiom) -> Result<Rec, Fault>
+fn by_axiom(recorder: &mut Recorder, rule: Axiom) -> Result<Rec, Fault>
     ensures outcome { Answers (theorem_in result) (Ok (axiom_theorem rule recorder.old.theory)) }
     ensures goes_on { GoesOn recorder.old recorder.new result }
 {
     match rule {
-        Axiom::Eta => recorder.eta(alloc),
-        Axiom::Select => recorder.select(alloc),
+        Axiom::Eta => recorder.eta(),
+        Axiom::Select => recorder.select(),
     }
 }
 
 // REFL of a term.
-fn reflexive(recorder: &mut Recorder, alloc: Global, term: &Term) -> Result<Rec, Fault>
+fn reflexive(recorder: &mut Recorder, term: &Term) -> Result<Rec, Fault>
     ensures outcome { Answers (theorem_in result) (refl_outcome recorder.old.theory term.now) }
     ensures goes_on { GoesOn recorder.old recorder.new result }
 {
-    recorder.refl(alloc, term)
+    recorder.refl(term)
 }
 
 // REFL, BETA or ASSUME.
-fn by_term(
-    recorder: &mut Recorder,
-    alloc: Global,
-    rule: TermRule,
-    term: &TermSketch<'_>,
-) -> Result<Rec, Fault>
+fn by_term(recorder: &mut Recorder, rule: TermRule, term: &TermSketch<'_>) -> Result<Rec, Fault>
     ensures outcome { Answers (theorem_in result) (followed (term_outcome term.now) (λ term. term_rule_outcome rule recorder.old.theory term)) }
     ensures goes_on { GoesOn recorder.old recorder.new result }
 {
+    let alloc = recorder.alloc();
     let term = term_of(alloc, term)?;
     match rule {
-        TermRule::Refl => reflexive(recorder, alloc, &term),
-        TermRule::Beta => recorder.beta(alloc, &term),
-        TermRule::Assume => recorder.assume(alloc, &term),
+        TermRule::Refl => reflexive(recorder, &term),
+        TermRule::Beta => recorder.beta(&term),
+        TermRule::Assume => recorder.assume(&term),
     }
 }
 
 // A rule for two theorems.
-fn by_pair(
-    recorder: &mut Recorder,
-    alloc: Global,
-    rule: PairRule,
-    first: &Rec,
-    second: &Rec,
-) -> Result<Rec, Fault>
+fn by_pair(recorder: &mut Recorder, rule: PairRule, first: &Rec, second: &Rec) -> Result<Rec, Fault>
     requires first { IsMade recorder.old first.now }
     requires second { IsMade recorder.old second.now }
     ensures outcome { Answers (theorem_in result) (pair_rule_outcome rule recorder.old.theory first.now.theorem second.now.theorem) }
     ensures goes_on { GoesOn recorder.old recorder.new result }
 {
     match rule {
-        PairRule::Trans => recorder.trans(alloc, first, second),
-        PairRule::MkComb => recorder.mk_comb(alloc, first, second),
-        PairRule::EqMp => recorder.eq_mp(alloc, first, second),
-        PairRule::DeductAntisym => recorder.deduct_antisym(alloc, first, second),
+        PairRule::Trans => recorder.trans(first, second),
+        PairRule::MkComb => recorder.mk_comb(first, second),
+        PairRule::EqMp => recorder.eq_mp(first, second),
+        PairRule::DeductAntisym => recorder.deduct_antisym(first, second),
     }
 }
 
@@ -165,7 +149,6 @@ fn by_pair(
 #[tactic(auto, using(crate::proofs::DerivationLemmas::still_made, crate::proofs::DerivationLemmas::goes_on_twice))]
 fn by_ap_term(
     recorder: &mut Recorder,
-    alloc: Global,
     function: &TermSketch<'_>,
     theorem: &Rec,
 ) -> Result<Rec, Fault>
@@ -173,16 +156,16 @@ fn by_ap_term(
     ensures outcome { Answers (theorem_in result) (ap_term_of recorder.old.theory function.now theorem.now.theorem) }
     ensures goes_on { GoesOn recorder.old recorder.new result }
 {
+    let alloc = recorder.alloc();
     let function = term_of(alloc, function)?;
-    let reflexive = reflexive(recorder, alloc, &function)?;
-    by_pair(recorder, alloc, PairRule::MkComb, &reflexive, theorem)
+    let reflexive = reflexive(recorder, &function)?;
+    by_pair(recorder, PairRule::MkComb, &reflexive, theorem)
 }
 
 // MK_COMB of a theorem, and REFL of an argument.
 #[tactic(auto, using(crate::proofs::DerivationLemmas::still_made, crate::proofs::DerivationLemmas::goes_on_twice))]
 fn by_ap_thm(
     recorder: &mut Recorder,
-    alloc: Global,
     theorem: &Rec,
     argument: &TermSketch<'_>,
 ) -> Result<Rec, Fault>
@@ -190,16 +173,16 @@ fn by_ap_thm(
     ensures outcome { Answers (theorem_in result) (ap_thm_of recorder.old.theory theorem.now.theorem argument.now) }
     ensures goes_on { GoesOn recorder.old recorder.new result }
 {
+    let alloc = recorder.alloc();
     let argument = term_of(alloc, argument)?;
-    let reflexive = reflexive(recorder, alloc, &argument)?;
-    by_pair(recorder, alloc, PairRule::MkComb, theorem, &reflexive)
+    let reflexive = reflexive(recorder, &argument)?;
+    by_pair(recorder, PairRule::MkComb, theorem, &reflexive)
 }
 
 // An equation with its sides turned, by its relation and its left side.
 #[tactic(auto, using(crate::proofs::DerivationLemmas::still_made, crate::proofs::DerivationLemmas::goes_on_twice))]
 fn turned(
     recorder: &mut Recorder,
-    alloc: Global,
     relation: &Term,
     left: &Term,
     theorem: &Rec,
@@ -208,15 +191,15 @@ fn turned(
     ensures outcome { Answers (theorem_in result) (turned recorder.old.theory relation.now left.now theorem.now.theorem) }
     ensures goes_on { GoesOn recorder.old recorder.new result }
 {
-    let same = reflexive(recorder, alloc, relation)?;
-    let applied = by_pair(recorder, alloc, PairRule::MkComb, &same, theorem)?;
-    let reflexive = reflexive(recorder, alloc, left)?;
-    let sides = by_pair(recorder, alloc, PairRule::MkComb, &applied, &reflexive)?;
-    by_pair(recorder, alloc, PairRule::EqMp, &sides, &reflexive)
+    let same = reflexive(recorder, relation)?;
+    let applied = by_pair(recorder, PairRule::MkComb, &same, theorem)?;
+    let reflexive = reflexive(recorder, left)?;
+    let sides = by_pair(recorder, PairRule::MkComb, &applied, &reflexive)?;
+    by_pair(recorder, PairRule::EqMp, &sides, &reflexive)
 }
 
 // SYM.
-fn by_sym(recorder: &mut Recorder, alloc: Global, theorem: &Rec) -> Result<Rec, Fault>
+fn by_sym(recorder: &mut Recorder, theorem: &Rec) -> Result<Rec, Fault>
     requires { IsMade recorder.old theorem.now }
     ensures outcome { Answers (theorem_in result) (sym_of recorder.old.theory theorem.now.theorem) }
     ensures goes_on { GoesOn recorder.old recorder.new result }
@@ -227,44 +210,34 @@ fn by_sym(recorder: &mut Recorder, alloc: Global, theorem: &Rec) -> Result<Rec, 
     let Some((relation, left)) = applied.dest_comb() else {
         return Err(Fault::NotEquation);
     };
-    turned(recorder, alloc, relation, left, theorem)
+    turned(recorder, relation, left, theorem)
 }
 
 // ABS over a variable.
-fn by_abs(
-    recorder: &mut Recorder,
-    alloc: Global,
-    variable: &TermSketch<'_>,
-    theorem: &Rec,
-) -> Result<Rec, Fault>
+fn by_abs(recorder: &mut Recorder, variable: &TermSketch<'_>, theorem: &Rec) -> Result<Rec, Fault>
     requires { IsMade recorder.old theorem.now }
     ensures outcome { Answers (theorem_in result) (followed (term_outcome variable.now) (λ variable. abs_outcome recorder.old.theory variable theorem.now.theorem)) }
     ensures goes_on { GoesOn recorder.old recorder.new result }
 {
+    let alloc = recorder.alloc();
     let variable = term_of(alloc, variable)?;
-    recorder.abs(alloc, &variable, theorem)
+    recorder.abs(&variable, theorem)
 }
 
 // EQ_MP of REFL of a term, and a theorem of its image.
 #[tactic(auto, using(crate::proofs::DerivationLemmas::still_made, crate::proofs::DerivationLemmas::goes_on_twice))]
-fn renamed(
-    recorder: &mut Recorder,
-    alloc: Global,
-    conclusion: &Term,
-    theorem: &Rec,
-) -> Result<Rec, Fault>
+fn renamed(recorder: &mut Recorder, conclusion: &Term, theorem: &Rec) -> Result<Rec, Fault>
     requires { IsMade recorder.old theorem.now }
     ensures outcome { Answers (theorem_in result) (followed (refl_outcome recorder.old.theory conclusion.now) (λ reflexive. eq_mp_outcome recorder.old.theory reflexive theorem.now.theorem)) }
     ensures goes_on { GoesOn recorder.old recorder.new result }
 {
-    let reflexive = reflexive(recorder, alloc, conclusion)?;
-    by_pair(recorder, alloc, PairRule::EqMp, &reflexive, theorem)
+    let reflexive = reflexive(recorder, conclusion)?;
+    by_pair(recorder, PairRule::EqMp, &reflexive, theorem)
 }
 
 // INST of a theorem without hypotheses.
 fn by_inst(
     recorder: &mut Recorder,
-    alloc: Global,
     new: &TermSketch<'_>,
     old: &TermSketch<'_>,
     theorem: &Rec,
@@ -274,19 +247,19 @@ fn by_inst(
     ensures outcome { Answers (theorem_in result) (inst_of recorder.old.theory new.now old.now theorem.now.theorem conclusion.now) }
     ensures goes_on { GoesOn recorder.old recorder.new result }
 {
+    let alloc = recorder.alloc();
     let pairs = [(term_of(alloc, new)?, term_of(alloc, old)?)];
     let conclusion = term_of(alloc, conclusion)?;
     if recorder.thm(theorem).hyps().len() != 0 {
         return Err(Fault::BadShape);
     }
-    let instance = recorder.inst(alloc, &pairs, theorem)?;
-    renamed(recorder, alloc, &conclusion, &instance)
+    let instance = recorder.inst(&pairs, theorem)?;
+    renamed(recorder, &conclusion, &instance)
 }
 
 // INST_TYPE of a theorem without hypotheses.
 fn by_inst_type(
     recorder: &mut Recorder,
-    alloc: Global,
     new: &TypeSketch<'_>,
     old: &TypeSketch<'_>,
     theorem: &Rec,
@@ -296,11 +269,12 @@ fn by_inst_type(
     ensures outcome { Answers (theorem_in result) (inst_type_of recorder.old.theory new.now old.now theorem.now.theorem conclusion.now) }
     ensures goes_on { GoesOn recorder.old recorder.new result }
 {
+    let alloc = recorder.alloc();
     let pairs = [(type_of(alloc, new)?, type_of(alloc, old)?)];
     let conclusion = term_of(alloc, conclusion)?;
     if recorder.thm(theorem).hyps().len() != 0 {
         return Err(Fault::BadShape);
     }
-    let instance = recorder.inst_type(alloc, &pairs, theorem)?;
-    renamed(recorder, alloc, &conclusion, &instance)
+    let instance = recorder.inst_type(&pairs, theorem)?;
+    renamed(recorder, &conclusion, &instance)
 }

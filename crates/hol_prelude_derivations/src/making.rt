@@ -10,7 +10,6 @@ use crate::derivation::{Derivation, derive};
 use crate::sketch::{TermSketch, term_of};
 use hol_journal::{Rec, Recorder};
 use hol_model::Fault;
-use std::alloc::Global;
 
 /// A definition of a constant, or a derivation from the theorems that were made before it.
 #[derive(Clone, Copy)]
@@ -20,31 +19,26 @@ pub enum Making<'a> {
 }
 
 // The theorem of one of them.
-fn make(
-    recorder: &mut Recorder,
-    alloc: Global,
-    earlier: &[Rec],
-    making: &Making<'_>,
-) -> Result<Rec, Fault>
+fn make(recorder: &mut Recorder, earlier: &[Rec], making: &Making<'_>) -> Result<Rec, Fault>
     requires { AreMade recorder.old earlier.now }
     ensures outcome { Answers (theorem_in result) (made_outcome recorder.old.theory (theorems earlier.now) making.now) }
     ensures theory { IfOk result (λ made. recorder.new.theory ≡ next_theory recorder.old.theory making.now made.theorem) }
     ensures made { IfOk result (IsMade recorder.new) }
     ensures grown { IsGrown recorder.old recorder.new }
 {
+    let alloc = recorder.alloc();
     match making {
         Making::Define(name, body) => {
             let body = term_of(alloc, body)?;
-            recorder.define(alloc, name, &body)
+            recorder.define(name, &body)
         }
-        Making::Derive(derivation) => derive(recorder, alloc, earlier, derivation),
+        Making::Derive(derivation) => derive(recorder, earlier, derivation),
     }
 }
 
 // The earlier theorems, and those of the list.
 fn make_all(
     recorder: &mut Recorder,
-    alloc: Global,
     mut earlier: Vec<Rec>,
     makings: &[Making<'_>],
 ) -> Result<Vec<Rec>, Fault>
@@ -56,15 +50,14 @@ fn make_all(
     let Some((first, rest)) = makings.split_first() else {
         return Ok(earlier);
     };
-    let theorem = make(recorder, alloc, &earlier, first)?;
+    let theorem = make(recorder, &earlier, first)?;
     earlier.push(theorem)?;
-    make_all(recorder, alloc, earlier, rest)
+    make_all(recorder, earlier, rest)
 }
 
 /// The earlier theorems, and those of a table.
 pub fn make_table(
     recorder: &mut Recorder,
-    alloc: Global,
     earlier: Vec<Rec>,
     makings: &[Making<'_>],
 ) -> Result<Vec<Rec>, Fault>
@@ -73,18 +66,15 @@ pub fn make_table(
     ensures made { IfOk result (λ all. AreMade recorder.new all.items) }
     ensures grown { IsGrown recorder.old recorder.new }
 {
-    make_all(recorder, alloc, earlier, makings)
+    make_all(recorder, earlier, makings)
 }
 
 /// The theorems of a table, from none.
-pub fn make_first(
-    recorder: &mut Recorder,
-    alloc: Global,
-    makings: &[Making<'_>],
-) -> Result<Vec<Rec>, Fault>
+pub fn make_first(recorder: &mut Recorder, makings: &[Making<'_>]) -> Result<Vec<Rec>, Fault>
     ensures outcome { MakesAll recorder.old.theory [] makings.now recorder.new.theory result }
     ensures made { IfOk result (λ all. AreMade recorder.new all.items) }
     ensures grown { IsGrown recorder.old recorder.new }
 {
-    make_table(recorder, alloc, Vec::new(alloc), makings)
+    let alloc = recorder.alloc();
+    make_table(recorder, Vec::new(alloc), makings)
 }

@@ -54,7 +54,6 @@ fn is_free_in_others(hypotheses: &[Term], witness: &Term, name: &str, ty: &Ty) -
 #[tactic(auto, using(hol_equal::proofs::StepLemmas::still_made, hol_equal::proofs::StepLemmas::now_made))]
 fn from_redex(
     recorder: &mut Recorder,
-    alloc: Global,
     function: &Term,
     binder: &Term,
     argument: &Term,
@@ -67,16 +66,15 @@ fn from_redex(
         → applied.now ≡ combination function.now argument.now → DerivesIf (is_roomy (existential at.name at.ty at.body)) result
         (redex at.name at.ty at.body argument.now ∷ []) (witnessed at.name at.ty at.body argument.now) }
 {
-    let equation = converted_known(recorder, alloc, function, binder, argument)?;
-    let assumed = assume_known(recorder, alloc, applied)?;
-    eq_mp_known(recorder, alloc, &equation, &assumed)
+    let equation = converted_known(recorder, function, binder, argument)?;
+    let assumed = assume_known(recorder, applied)?;
+    eq_mp_known(recorder, &equation, &assumed)
 }
 
 // From `q`, `(\x. p) v ==> q` without the hypothesis `p[v/x]`.
 #[tactic(auto, using(hol_equal::proofs::StepLemmas::still_made, hol_equal::proofs::StepLemmas::now_made, hol_bool::proofs::PreludeSteps::still_logical))]
 fn implied_by_redex(
     recorder: &mut Recorder,
-    alloc: Global,
     logic: &Bool,
     function: &Term,
     binder: &Term,
@@ -93,17 +91,17 @@ fn implied_by_redex(
         ∷ without (witnessed at.name at.ty at.body argument.now) (images premise.now.theorem)))
         (implication (redex at.name at.ty at.body argument.now) (image premise.now.theorem.conclusion)) }
 {
+    let alloc = recorder.alloc();
     let applied = Term::mk_comb(alloc, function, argument)?;
-    let witness = from_redex(recorder, alloc, function, binder, argument, &applied)?;
-    let consequent = cut(recorder, alloc, &witness, premise)?;
-    disch_in_room(recorder, alloc, logic, &applied, &consequent)
+    let witness = from_redex(recorder, function, binder, argument, &applied)?;
+    let consequent = cut(recorder, &witness, premise)?;
+    disch_in_room(recorder, logic, &applied, &consequent)
 }
 
 // CHOOSE, of parts that pass its tests.
 #[tactic(auto, using(hol_equal::proofs::StepLemmas::still_made, hol_equal::proofs::StepLemmas::now_made, hol_bool::proofs::PreludeSteps::still_logical, hol_bool::proofs::PreludeSteps::still_formula))]
 fn choose_in_room(
     recorder: &mut Recorder,
-    alloc: Global,
     logic: &Bool,
     function: &Term,
     binder: &Term,
@@ -124,10 +122,10 @@ fn choose_in_room(
 {
     let formula = conclusion_of(recorder, second);
     let lemma = theorem_of(recorder, logic, numbers::CHOOSE);
-    let sufficient = implied_by_redex(recorder, alloc, logic, function, binder, argument, second)?;
-    let always = gen_in_room(recorder, alloc, logic, argument, &sufficient)?;
-    let cases = by_formula_lemma(recorder, alloc, lemma, function, argument, formula, first)?;
-    mp_known(recorder, alloc, logic, formula, &cases, &always)
+    let sufficient = implied_by_redex(recorder, logic, function, binder, argument, second)?;
+    let always = gen_in_room(recorder, logic, argument, &sufficient)?;
+    let cases = by_formula_lemma(recorder, lemma, function, argument, formula, first)?;
+    mp_known(recorder, logic, formula, &cases, &always)
 }
 
 /// CHOOSE: from `?x. p` and `q`, `q` without the hypothesis `p[v/x]`, by the lemma `(?) P |- (!x. P x ==> q) ==> q`,
@@ -136,7 +134,6 @@ fn choose_in_room(
 #[tactic(auto, using(crate::proofs::InferredQuantifiers::infers_choose, hol_equal::proofs::StepLemmas::still_made, hol_equal::proofs::StepLemmas::now_made))]
 pub fn choose(
     recorder: &mut Recorder,
-    alloc: Global,
     logic: &Bool,
     variable: &Term,
     first: &Rec,
@@ -150,6 +147,7 @@ pub fn choose(
         ++ terms_of_theorem second.now.theorem) (choose_outcome recorder.old.theory variable.now first.now.theorem second.now.theorem) }
     ensures inferred { Infers recorder.old.theory (rule_choose variable.now) (first.now.theorem ∷ second.now.theorem ∷ []) (theorem_in result) }
 {
+    let alloc = recorder.alloc();
     let formula = conclusion_of(recorder, first);
     let Some((name, ty)) = variable.dest_var() else {
         return Err(Fault::NotVariable);
@@ -173,7 +171,6 @@ pub fn choose(
     }
     choose_in_room(
         recorder,
-        alloc,
         logic,
         parts.predicate,
         parts.binder,

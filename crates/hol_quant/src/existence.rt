@@ -60,7 +60,6 @@ fn is_body_with(
 // From `p <=> T`, `p`.
 fn from_truth(
     recorder: &mut Recorder,
-    alloc: Global,
     logic: &Bool,
     formula: &Term,
     premise: &Rec,
@@ -74,17 +73,17 @@ fn from_truth(
         → Shows premise.now.theorem h (nameless_equation bool_type (image formula.now) (image true_term))
         → DerivesIf room result h (image formula.now) }
 {
+    let alloc = recorder.alloc();
     let lemma = theorem_of(recorder, logic, numbers::EQT_ELIM);
     let of_formula = formula_pair(alloc, formula, "p")?;
     let terms = [of_formula];
-    by_fitting_lemma(recorder, alloc, &[], &terms, lemma, premise)
+    by_fitting_lemma(recorder, &[], &terms, lemma, premise)
 }
 
 // From `p[w/x]`, `(\x. p) w`.
 #[tactic(auto, using(hol_bool::proofs::PreludeSteps::staying))]
 fn expanded(
     recorder: &mut Recorder,
-    alloc: Global,
     logic: &Bool,
     parts: Quantified<'_>,
     witness: &Term,
@@ -100,17 +99,17 @@ fn expanded(
         (witnessed_terms formula witness.now (image premise.now.theorem.conclusion))) result (images premise.now.theorem)
         (app (image parts.entry.predicate.now) (image witness.now)) }
 {
+    let alloc = recorder.alloc();
     let redex = Term::mk_comb(alloc, parts.predicate, witness)?;
-    let conversion = converted_known(recorder, alloc, parts.predicate, parts.binder, witness)?;
-    let equal = equal_to_truth(recorder, alloc, logic, premise)?;
-    let redex_equal = trans_known(recorder, alloc, &conversion, &equal)?;
-    from_truth(recorder, alloc, logic, &redex, &redex_equal)
+    let conversion = converted_known(recorder, parts.predicate, parts.binder, witness)?;
+    let equal = equal_to_truth(recorder, logic, premise)?;
+    let redex_equal = trans_known(recorder, &conversion, &equal)?;
+    from_truth(recorder, logic, &redex, &redex_equal)
 }
 
 // From `p[w/x]`, `?x. p`.
 fn exists_in_room(
     recorder: &mut Recorder,
-    alloc: Global,
     logic: &Bool,
     formula: &Term,
     parts: Quantified<'_>,
@@ -128,10 +127,10 @@ fn exists_in_room(
         (witnessed_terms formula.now witness.now (image premise.now.theorem.conclusion))) result (images premise.now.theorem) (image formula.now) }
 {
     let lemma = theorem_of(recorder, logic, numbers::EXISTS);
-    let redex = expanded(recorder, alloc, logic, parts, witness, premise)?;
-    let answer = by_predicate_lemma(recorder, alloc, lemma, parts.predicate, witness, &redex)?;
+    let redex = expanded(recorder, logic, parts, witness, premise)?;
+    let answer = by_predicate_lemma(recorder, lemma, parts.predicate, witness, &redex)?;
     let _answer = conclusion_of(recorder, &answer);
-    named_same(recorder, alloc, formula, &answer)
+    named_same(recorder, formula, &answer)
 }
 
 /// EXISTS: for `?x. p` and a witness `w`, from `p[w/x]`, `?x. p`, by the lemma `P x |- (?) P`, in fifteen steps. Refused
@@ -141,7 +140,6 @@ fn exists_in_room(
 #[tactic(auto, using(crate::proofs::InferredQuantifiers::infers_exists))]
 pub fn exists(
     recorder: &mut Recorder,
-    alloc: Global,
     logic: &Bool,
     formula: &Term,
     witness: &Term,
@@ -154,6 +152,7 @@ pub fn exists(
         (exists_outcome recorder.old.theory formula.now witness.now premise.now.theorem) }
     ensures inferred { Infers recorder.old.theory (rule_exists formula.now witness.now) (premise.now.theorem ∷ []) (theorem_in result) }
 {
+    let alloc = recorder.alloc();
     let _formula_type = formula.ty();
     let _witness_type = witness.ty();
     recorder.theory_is_legal();
@@ -170,5 +169,5 @@ pub fn exists(
     if !is_instance {
         return Err(Fault::NotAlpha);
     }
-    exists_in_room(recorder, alloc, logic, formula, parts, witness, premise)
+    exists_in_room(recorder, logic, formula, parts, witness, premise)
 }

@@ -32,7 +32,6 @@ use std::alloc::Global;
 // From `p`, `p <=> T`.
 pub(crate) fn equal_to_truth(
     recorder: &mut Recorder,
-    alloc: Global,
     logic: &Bool,
     premise: &Rec,
 ) -> Result<Rec, Fault>
@@ -42,11 +41,12 @@ pub(crate) fn equal_to_truth(
     ensures derives { (room : Room) → FitsIf room (image premise.now.theorem.conclusion)
         → DerivesIf room result (images premise.now.theorem) (nameless_equation bool_type (image premise.now.theorem.conclusion) (image true_term)) }
 {
+    let alloc = recorder.alloc();
     recorder.theory_is_legal();
     let lemma = theorem_of(recorder, logic, numbers::EQT_INTRO);
     let of_formula = formula_pair(alloc, recorder.thm(premise).concl(), "p")?;
     let terms = [of_formula];
-    by_fitting_lemma(recorder, alloc, &[], &terms, lemma, premise)
+    by_fitting_lemma(recorder, &[], &terms, lemma, premise)
 }
 
 // `!x. p`, from `\x. p`.
@@ -74,7 +74,6 @@ fn is_free_in_some(hypotheses: &[Term], name: &str, ty: &Ty) -> bool
 #[tactic(auto, using(hol_equal::proofs::StepLemmas::still_made, hol_equal::proofs::StepLemmas::now_made))]
 fn over_all(
     recorder: &mut Recorder,
-    alloc: Global,
     logic: &Bool,
     binder: &Term,
     function: &Term,
@@ -90,15 +89,14 @@ fn over_all(
 {
     let _formula = conclusion_of(recorder, premise);
     let lemma = theorem_of(recorder, logic, numbers::GEN);
-    let equal = equal_to_truth(recorder, alloc, logic, premise)?;
-    let always = abs(recorder, alloc, binder, &equal)?;
-    by_predicate_lemma(recorder, alloc, lemma, function, binder, &always)
+    let equal = equal_to_truth(recorder, logic, premise)?;
+    let always = abs(recorder, binder, &equal)?;
+    by_predicate_lemma(recorder, lemma, function, binder, &always)
 }
 
 // GEN, with the room that it needs: from `p`, `!x. p` up to the names of bound variables.
 pub(crate) fn gen_in_room(
     recorder: &mut Recorder,
-    alloc: Global,
     logic: &Bool,
     binder: &Term,
     premise: &Rec,
@@ -111,9 +109,10 @@ pub(crate) fn gen_in_room(
         → FitsForAll room name ty premise.now.theorem.conclusion → DerivesIf room result (images premise.now.theorem)
         (for_all name ty premise.now.theorem.conclusion) }
 {
+    let alloc = recorder.alloc();
     let formula = conclusion_of(recorder, premise);
     let function = Term::mk_abs(alloc, binder, formula)?;
-    over_all(recorder, alloc, logic, binder, &function, premise)
+    over_all(recorder, logic, binder, &function, premise)
 }
 
 /// GEN: from `p`, `!x. p`, by the lemmas `p |- p <=> T` and `P = (\x. T) |- (!) P`, in ten steps. Refused where the
@@ -122,7 +121,6 @@ pub(crate) fn gen_in_room(
 #[tactic(auto, using(crate::proofs::InferredQuantifiers::infers_gen))]
 pub fn generalize(
     recorder: &mut Recorder,
-    alloc: Global,
     logic: &Bool,
     binder: &Term,
     premise: &Rec,
@@ -133,6 +131,7 @@ pub fn generalize(
     ensures outcome { AnswersStated (theorem_in result) (terms_of_theorem premise.now.theorem) (gen_outcome recorder.old.theory binder.now premise.now.theorem) }
     ensures inferred { Infers recorder.old.theory (rule_gen binder.now) (premise.now.theorem ∷ []) (theorem_in result) }
 {
+    let alloc = recorder.alloc();
     let Some((name, ty)) = binder.dest_var() else {
         return Err(Fault::NotVariable);
     };
@@ -146,7 +145,7 @@ pub fn generalize(
     recorder.theory_is_legal();
     let function = Term::mk_abs(alloc, binder, theorem.concl())?;
     let formula = universal(alloc, &function)?;
-    let answer = over_all(recorder, alloc, logic, binder, &function, premise)?;
+    let answer = over_all(recorder, logic, binder, &function, premise)?;
     let _answer = conclusion_of(recorder, &answer);
-    named_same(recorder, alloc, &formula, &answer)
+    named_same(recorder, &formula, &answer)
 }

@@ -45,7 +45,6 @@ fn variable_pair(alloc: Global, term: &Term, name: &str) -> Result<(Term, Term),
 // are not walked for it, and the premise fits, and is not compared with the hypothesis.
 pub(crate) fn by_predicate_lemma(
     recorder: &mut Recorder,
-    alloc: Global,
     lemma: &Rec,
     function: &Term,
     element: &Term,
@@ -60,19 +59,19 @@ pub(crate) fn by_predicate_lemma(
         → Shows premise.now.theorem h (at_predicate ty function.now element.now p)
         → DerivesIf (lemma_fits ty function.now element.now p q) result h (at_predicate ty function.now element.now q) }
 {
+    let alloc = recorder.alloc();
     let of_type = type_pair(alloc, element)?;
     let of_predicate = variable_pair(alloc, function, "P")?;
     let of_element = variable_pair(alloc, element, "x")?;
     let types = [of_type];
     let terms = [of_predicate, of_element];
-    by_fitting_lemma(recorder, alloc, &types, &terms, lemma, premise)
+    by_fitting_lemma(recorder, &types, &terms, lemma, premise)
 }
 
 // From the lemma's hypothesis at a predicate for `P`, on the type of an element, and a formula for `q`, its conclusion
 // there. The theory knows them, which are not walked for it, and the premise fits, and is not compared with the hypothesis.
 pub(crate) fn by_formula_lemma(
     recorder: &mut Recorder,
-    alloc: Global,
     lemma: &Rec,
     function: &Term,
     element: &Term,
@@ -89,10 +88,11 @@ pub(crate) fn by_formula_lemma(
         → Shows lemma.now.theorem (p ∷ []) q → Shows premise.now.theorem h (at_formula ty function.now formula.now p)
         → DerivesIf (formula_lemma_fits ty function.now formula.now p q) result h (at_formula ty function.now formula.now q) }
 {
+    let alloc = recorder.alloc();
     let of_type = type_pair(alloc, element)?;
     let of_predicate = variable_pair(alloc, function, "P")?;
     let of_formula = formula_pair(alloc, formula, "q")?;
     let types = [of_type];
     let terms = [of_predicate, of_formula];
-    by_fitting_lemma(recorder, alloc, &types, &terms, lemma, premise)
+    by_fitting_lemma(recorder, &types, &terms, lemma, premise)
 }

@@ -19,12 +19,10 @@ use hol_journal::{Rec, Recorder};
 use hol_model::Fault;
 use hol_prelude::{Bool, numbers, theorem_of};
 use hol_terms::Term;
-use std::alloc::Global;
 
 // From `!x. p`, `p[t/x]`.
 pub(crate) fn spec_by_lemma(
     recorder: &mut Recorder,
-    alloc: Global,
     lemma: &Rec,
     term: &Term,
     premise: &Rec,
@@ -45,22 +43,16 @@ pub(crate) fn spec_by_lemma(
         return Err(Fault::TypeMismatch);
     }
     pass_known(recorder, term)?;
-    let redex = by_predicate_lemma(recorder, alloc, lemma, parts.predicate, term, premise)?;
-    let equation = converted_known(recorder, alloc, parts.predicate, parts.binder, term)?;
-    eq_mp_known(recorder, alloc, &equation, &redex)
+    let redex = by_predicate_lemma(recorder, lemma, parts.predicate, term, premise)?;
+    let equation = converted_known(recorder, parts.predicate, parts.binder, term)?;
+    eq_mp_known(recorder, &equation, &redex)
 }
 
 /// SPEC: from `!x. p`, `p[t/x]`, by the lemma `(!) P |- P x`, in seven steps. Refused where the conclusion is no
 /// universal formula, then where the term is of another type than the variable, and then where the theory does not know
 /// a type or a constant of the term.
 #[tactic(auto, using(crate::proofs::InferredQuantifiers::infers_spec))]
-pub fn spec(
-    recorder: &mut Recorder,
-    alloc: Global,
-    logic: &Bool,
-    term: &Term,
-    premise: &Rec,
-) -> Result<Rec, Fault>
+pub fn spec(recorder: &mut Recorder, logic: &Bool, term: &Term, premise: &Rec) -> Result<Rec, Fault>
     requires logic { HasLogic recorder.old logic.now }
     requires premise { IsMade recorder.old premise.now }
     ensures continues { Continues recorder.old recorder.new result }
@@ -70,5 +62,5 @@ pub fn spec(
     let _type = term.ty();
     let _conclusion = conclusion_of(recorder, premise);
     let lemma = theorem_of(recorder, logic, numbers::SPEC);
-    spec_by_lemma(recorder, alloc, lemma, term, premise)
+    spec_by_lemma(recorder, lemma, term, premise)
 }

@@ -17,12 +17,10 @@ use hol_just::{Goal, Step};
 use hol_model::Fault;
 use hol_tactic_exprs::{Conv, Fuel};
 use hol_theorem_library::Library;
-use std::alloc::Global;
 
 /// CONV_TAC: the goal by what the conversion proves of its target.
 pub(crate) fn conv_tac<H: Refiners, C: Conversions>(
     library: &mut Library,
-    alloc: Global,
     conversions: &C,
     hosts: &H,
     conv: &Conv,
@@ -36,14 +34,14 @@ pub(crate) fn conv_tac<H: Refiners, C: Conversions>(
     ensures library { IsLibrary library.new }
     ensures extended { IsExtended library.old library.new }
 {
+    let alloc = library.recorder.alloc();
     let theorem = conversions.apply(library, alloc, hosts, conv, &goal.concl, fuel)?;
-    by_equation(library, alloc, goal, theorem)
+    by_equation(library, goal, theorem)
 }
 
 /// REWRITE_TAC: the goal by what rewriting with the theorems of the names, from the top down, proves of its target.
 pub(crate) fn rewrite_tac<H: Refiners, C: Conversions>(
     library: &mut Library,
-    alloc: Global,
     conversions: &C,
     hosts: &H,
     names: &[String],
@@ -57,7 +55,8 @@ pub(crate) fn rewrite_tac<H: Refiners, C: Conversions>(
     ensures library { IsLibrary library.new }
     ensures extended { IsExtended library.old library.new }
 {
-    let rules = rules_named(library, alloc, names)?;
+    let alloc = library.recorder.alloc();
+    let rules = rules_named(library, names)?;
     let theorem = conversions.rewrite(library, alloc, hosts, &rules, &goal.concl, fuel)?;
-    by_equation(library, alloc, goal, theorem)
+    by_equation(library, goal, theorem)
 }

@@ -20,7 +20,6 @@ use hol_just::{Goal, Step};
 use hol_model::Fault;
 use hol_refine_table::are_assumed;
 use hol_theorem_library::Library;
-use std::alloc::Global;
 
 // One lemma more, behind the others. Refused, where nothing changes: Memory.
 fn add_lemma(library: &mut Library, theorem: Rec) -> Result<(), Fault>
@@ -47,16 +46,12 @@ fn made_is_proved(library: &Library, theorem: &Rec)
 }
 
 // The step by an equation of the goal's target, which is to be the next lemma. Refused: Memory.
-fn step_by_equation(
-    library: &Library,
-    alloc: Global,
-    goal: &Goal,
-    theorem: &Rec,
-) -> Result<Step, Fault>
+fn step_by_equation(library: &Library, goal: &Goal, theorem: &Rec) -> Result<Step, Fault>
     requires { IsEquationOf goal.now.concl theorem.now.theorem }
     ensures { (sides : NamedTerm × NamedTerm) → dest_equation theorem.now.theorem.conclusion ≡ Some sides
         → AnswersStep (Ok (refiners.converted (length (store_in library.now).lemmas) (goal_of goal.now) sides.1)) (step_in result) }
 {
+    let alloc = library.recorder.alloc();
     match equation_parts(theorem.theorem().concl()) {
         Some(sides) => converted(alloc, library.store.lemma_count(), goal, sides.right),
         None => unreachable!(),
@@ -64,20 +59,16 @@ fn step_by_equation(
 }
 
 // The step that closes a goal by a theorem, which is to be the next lemma. Refused: Memory.
-fn step_by_theorem(library: &Library, alloc: Global) -> Result<Step, Fault>
+fn step_by_theorem(library: &Library) -> Result<Step, Fault>
     ensures { AnswersStep (Ok (refiners.proved_by_lemma (length (store_in library.now).lemmas))) (step_in result) }
 {
+    let alloc = library.recorder.alloc();
     proved(alloc, library.store.lemma_count())
 }
 
 /// The step by an equation of the goal's target, which becomes a lemma. Refused, where the store stays: RefineFails unless its
 /// hypotheses are assumed; Memory.
-pub(crate) fn by_equation(
-    library: &mut Library,
-    alloc: Global,
-    goal: &Goal,
-    theorem: Rec,
-) -> Result<Step, Fault>
+pub(crate) fn by_equation(library: &mut Library, goal: &Goal, theorem: Rec) -> Result<Step, Fault>
     requires library { IsLibrary library.old }
     requires known { IsKnownGoal library.old.recorder.theory (goal_of goal.now) }
     requires made { IsMade library.old.recorder theorem }
@@ -91,13 +82,13 @@ pub(crate) fn by_equation(
     if !are_assumed(theorem.theorem().hyps(), goal) {
         return Err(Fault::RefineFails);
     }
-    let step = step_by_equation(library, alloc, goal, &theorem)?;
+    let step = step_by_equation(library, goal, &theorem)?;
     add_lemma(library, theorem)?;
     Ok(step)
 }
 
 /// The step that closes a goal by a theorem, which becomes a lemma. Refused, where the store stays: Memory.
-pub(crate) fn by_theorem(library: &mut Library, alloc: Global, theorem: Rec) -> Result<Step, Fault>
+pub(crate) fn by_theorem(library: &mut Library, theorem: Rec) -> Result<Step, Fault>
     requires library { IsLibrary library.old }
     requires made { IsMade library.old.recorder theorem }
     ensures outcome { AnswersProved library.old.recorder.theory (store_in library.old) theorem.theorem (step_in result) (store_in library.new) }
@@ -105,7 +96,7 @@ pub(crate) fn by_theorem(library: &mut Library, alloc: Global, theorem: Rec) -> 
     ensures extended { IsExtended library.old library.new }
 {
     made_is_proved(library, &theorem);
-    let step = step_by_theorem(library, alloc)?;
+    let step = step_by_theorem(library)?;
     add_lemma(library, theorem)?;
     Ok(step)
 }

@@ -19,14 +19,14 @@ use hol_refine_table::leaf_step;
 use hol_tactic_exprs::{Fuel, Leaf};
 use hol_terms::Term;
 use hol_theorem_library::Library;
-use std::alloc::Global;
 
 // By a refiner of the table.
-fn by_table(library: &Library, alloc: Global, leaf: &Leaf<Term>, goal: &Goal) -> Result<Step, Fault>
+fn by_table(library: &Library, leaf: &Leaf<Term>, goal: &Goal) -> Result<Step, Fault>
     requires table { refiners.is_in_table (leaf_of leaf.now) ≡ true }
     requires known { IsKnownGoal library.now.recorder.theory (goal_of goal.now) }
     ensures { AnswersLeaf library.now.recorder.theory (store_in library.now) (leaf_of leaf.now) (goal_of goal.now) (step_in result) }
 {
+    let alloc = library.recorder.alloc();
     library.recorder.theory_is_legal();
     leaf_step(alloc, library.recorder.theory(), &library.store, leaf, goal)
 }
@@ -39,7 +39,6 @@ fn by_table(library: &Library, alloc: Global, leaf: &Leaf<Term>, goal: &Goal) ->
 /// is refused for; and Memory.
 pub fn refine<H: Refiners, C: Conversions>(
     library: &mut Library,
-    alloc: Global,
     conversions: &C,
     hosts: &H,
     leaf: &Leaf<Term>,
@@ -57,9 +56,9 @@ pub fn refine<H: Refiners, C: Conversions>(
         return Err(Fault::StepLimit);
     }
     match leaf {
-        Leaf::Conv(conv) => conv_tac(library, alloc, conversions, hosts, conv, goal, fuel),
-        Leaf::Rewrite(names) => rewrite_tac(library, alloc, conversions, hosts, names, goal, fuel),
-        Leaf::Taut => taut_tac(library, alloc, goal),
-        _ => by_table(library, alloc, leaf, goal),
+        Leaf::Conv(conv) => conv_tac(library, conversions, hosts, conv, goal, fuel),
+        Leaf::Rewrite(names) => rewrite_tac(library, conversions, hosts, names, goal, fuel),
+        Leaf::Taut => taut_tac(library, goal),
+        _ => by_table(library, leaf, goal),
     }
 }

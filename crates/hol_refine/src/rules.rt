@@ -13,10 +13,9 @@ use hol_journal::Rec;
 use hol_model::Fault;
 use hol_rewrite_rules::rules_of;
 use hol_theorem_library::{Library, libraries_continue};
-use std::alloc::Global;
 
 // The rules of a theorem, in order. Refused as `rules_of`.
-fn rules_of_one(library: &mut Library, alloc: Global, theorem: &Rec) -> Result<Vec<Rec>, Fault>
+fn rules_of_one(library: &mut Library, theorem: &Rec) -> Result<Vec<Rec>, Fault>
     requires library { IsLibrary library.old }
     requires made { IsMade library.old.recorder theorem.now }
     ensures library { IsLibrary library.new }
@@ -26,7 +25,7 @@ fn rules_of_one(library: &mut Library, alloc: Global, theorem: &Rec) -> Result<V
     ensures err { IfErr result (λ fault. AnswersRules theorem.now.theorem (Err fault)) }
 {
     libraries_continue();
-    rules_of(&mut library.recorder, alloc, &library.logic, theorem)
+    rules_of(&mut library.recorder, &library.logic, theorem)
 }
 
 // Puts rules behind others. Refused: Memory.
@@ -39,7 +38,7 @@ fn add_rules(rules: &mut Vec<Rec>, mut more: Vec<Rec>) -> Result<(), Fault>
 }
 
 // The rules of the theorems, in order. Refused as `rules_of` of the first for which it is refused.
-fn rules_of_all(library: &mut Library, alloc: Global, all: &[Rec]) -> Result<Vec<Rec>, Fault>
+fn rules_of_all(library: &mut Library, all: &[Rec]) -> Result<Vec<Rec>, Fault>
     requires library { IsLibrary library.old }
     requires made { AreMade library.old.recorder all.now }
     ensures library { IsLibrary library.new }
@@ -48,9 +47,10 @@ fn rules_of_all(library: &mut Library, alloc: Global, all: &[Rec]) -> Result<Vec
     ensures ok { IfOk result (λ rules. AnswersAllRules (theorems all.now) (Ok (theorems rules.items))) }
     ensures err { IfErr result (λ fault. (fault ≡ Memory) ⊎ AnswersAllRules (theorems all.now) (Err fault)) }
 {
+    let alloc = library.recorder.alloc();
     let mut rules = Vec::new(alloc);
     for theorem in all {
-        let more = rules_of_one(library, alloc, theorem)?;
+        let more = rules_of_one(library, theorem)?;
         add_rules(&mut rules, more)?;
     }
     Ok(rules)
@@ -58,11 +58,7 @@ fn rules_of_all(library: &mut Library, alloc: Global, all: &[Rec]) -> Result<Vec
 
 /// The rules of the stored theorems of the names, in order. Refused, in this order: UnknownName where a name stands for none;
 /// TooLarge of the first theorem whose rules have no room; and Memory.
-pub(crate) fn rules_named(
-    library: &mut Library,
-    alloc: Global,
-    names: &[String],
-) -> Result<Vec<Rec>, Fault>
+pub(crate) fn rules_named(library: &mut Library, names: &[String]) -> Result<Vec<Rec>, Fault>
     requires library { IsLibrary library.old }
     ensures library { IsLibrary library.new }
     ensures continued { IsContinued library.old library.new }
@@ -70,8 +66,9 @@ pub(crate) fn rules_named(
     ensures ok { IfOk result (λ rules. AreNamedRules (store_in library.old) (map string_bytes names.now) (theorems rules.items)) }
     ensures err { IfErr result (λ fault. (fault ≡ Memory) ⊎ IsRefusedBefore (store_in library.old) (rewrite_tac (map string_bytes names.now)) fault) }
 {
+    let alloc = library.recorder.alloc();
     let theorems = theorems_named(alloc, &library.store, names)?;
-    match rules_of_all(library, alloc, &theorems) {
+    match rules_of_all(library, &theorems) {
         Ok(rules) => Ok(rules),
         Err(fault) => Err(fault),
     }

@@ -15,10 +15,9 @@ use hol_model::Fault;
 use hol_taut::taut;
 use hol_terms::Term;
 use hol_theorem_library::{Library, libraries_continue};
-use std::alloc::Global;
 
 // TAUT, over a library.
-fn tautology(library: &mut Library, alloc: Global, term: &Term) -> Result<Rec, Fault>
+fn tautology(library: &mut Library, term: &Term) -> Result<Rec, Fault>
     requires library { IsLibrary library.old }
     ensures library { IsLibrary library.new }
     ensures continued { IsContinued library.old library.new }
@@ -26,16 +25,16 @@ fn tautology(library: &mut Library, alloc: Global, term: &Term) -> Result<Rec, F
     ensures outcome { AnswersTautology library.old.recorder.theory term.now (theorem_in result) }
 {
     libraries_continue();
-    taut(&mut library.recorder, alloc, &library.laws, term)
+    taut(&mut library.recorder, &library.laws, term)
 }
 
 /// TAUT_TAC: the goal is a tautology.
-pub(crate) fn taut_tac(library: &mut Library, alloc: Global, goal: &Goal) -> Result<Step, Fault>
+pub(crate) fn taut_tac(library: &mut Library, goal: &Goal) -> Result<Step, Fault>
     requires library { IsLibrary library.old }
     ensures outcome { AnswersTaut library.old.recorder.theory (store_in library.old) (goal_of goal.now) (step_in result) (store_in library.new) }
     ensures library { IsLibrary library.new }
     ensures extended { IsExtended library.old library.new }
 {
-    let theorem = tautology(library, alloc, &goal.concl)?;
-    by_theorem(library, alloc, theorem)
+    let theorem = tautology(library, &goal.concl)?;
+    by_theorem(library, theorem)
 }

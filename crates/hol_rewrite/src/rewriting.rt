@@ -19,7 +19,6 @@ use hol_kernel::Thm;
 use hol_match::Match;
 use hol_model::Fault;
 use hol_terms::Term;
-use std::alloc::Global;
 
 /// Rewriting of a term, not of its parts, as REWRITES_CONV of HOL Light's simp.ml: the first rule in the list's order
 /// whose left side matches the term, as `term_match` with the free variables of its hypotheses fixed, answers its
@@ -30,7 +29,6 @@ use std::alloc::Global;
 /// (`TooLarge`), whatever later rules give.
 pub fn rewrite_at(
     recorder: &mut Recorder,
-    alloc: Global,
     rules: &[Rec],
     choice: &Choice,
     term: &Term,
@@ -42,14 +40,14 @@ pub fn rewrite_at(
     ensures continues { Continues recorder.old recorder.new result }
     ensures rewrites { Rewrites (theorems rules.now) term.now (theorem_in result) ⊎ (theorem_in result ≡ Err Memory) }
 {
+    let alloc = recorder.alloc();
     let (place, found) = choice.first_match(alloc, term)?;
-    rule_instance(recorder, alloc, &rules[place], &found, term)
+    rule_instance(recorder, &rules[place], &found, term)
 }
 
 // The instance of a rule by a match.
 fn rule_instance(
     recorder: &mut Recorder,
-    alloc: Global,
     rule: &Rec,
     found: &Match,
     term: &Term,
@@ -64,7 +62,7 @@ fn rule_instance(
 {
     let _conclusion = recorder.thm(rule).concl();
     let _type = term.ty();
-    let made = instance_known(recorder, alloc, &found.types, &found.terms, rule)?;
+    let made = instance_known(recorder, &found.types, &found.terms, rule)?;
     within_limits(recorder.thm(&made));
     Ok(made)
 }

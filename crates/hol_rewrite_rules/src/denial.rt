@@ -14,13 +14,11 @@ use hol_journal::{Rec, Recorder};
 use hol_model::Fault;
 use hol_prelude::Bool;
 use hol_terms::Term;
-use std::alloc::Global;
 
 // From `~p`, `p <=> F`, by `p, ~p |- F` and `F |- p`. The theory knows each formula, which is not walked for it, and
 // `~p |- p <=> F` has no hypothesis but the premise, which is not compared for it.
 pub(crate) fn denied(
     recorder: &mut Recorder,
-    alloc: Global,
     logic: &Bool,
     part: &Term,
     premise: &Rec,
@@ -33,12 +31,12 @@ pub(crate) fn denied(
     ensures err { IfErr result (λ fault. IsPast fault (are_small premise.now.theorem)) }
 {
     let denial = conclusion_of(recorder, premise);
-    let assumed = assume_known(recorder, alloc, denial)?;
-    let implication = not_elim(recorder, alloc, logic, &assumed)?;
-    let falsity = undisch(recorder, alloc, logic, &implication)?;
+    let assumed = assume_known(recorder, denial)?;
+    let implication = not_elim(recorder, logic, &assumed)?;
+    let falsity = undisch(recorder, logic, &implication)?;
     let false_term = conclusion_of(recorder, &falsity);
-    let assumed_falsity = assume_known(recorder, alloc, false_term)?;
-    let part_of_falsity = contr_known(recorder, alloc, logic, part, &assumed_falsity)?;
-    let equation = deduct_antisym(recorder, alloc, &part_of_falsity, &falsity)?;
-    cut_known(recorder, alloc, premise, &equation)
+    let assumed_falsity = assume_known(recorder, false_term)?;
+    let part_of_falsity = contr_known(recorder, logic, part, &assumed_falsity)?;
+    let equation = deduct_antisym(recorder, &part_of_falsity, &falsity)?;
+    cut_known(recorder, premise, &equation)
 }

@@ -89,23 +89,18 @@ fn with_others(alloc: Global, first: &Term, others: &[Term]) -> Result<Vec<Term>
 }
 
 // REFL, of a term that the theory knows, which is not walked for it.
-fn refl_known(recorder: &mut Recorder, alloc: Global, term: &Term) -> Result<Rec, Fault>
+fn refl_known(recorder: &mut Recorder, term: &Term) -> Result<Rec, Fault>
     requires { is_known recorder.old.theory term.now ≡ true }
     ensures continues { Continues recorder.old recorder.new result }
     ensures names { IfOk result (λ made. made.theorem.conclusion ≡ equation term.now term.now) }
     ensures derives { (ty : HolType) → IsKnown recorder.old.theory (image term.now) ty → Derives result [] (nameless_equation ty (image term.now) (image term.now)) }
 {
-    recorder.refl_known(alloc, term)
+    recorder.refl_known(term)
 }
 
 // The theorem with this conclusion, of the same image as its own, by REFL and EQ_MP, also where nothing is bound. The theory
 // knows the formula, which is not walked for it, and the two are not compared.
-fn with_names(
-    recorder: &mut Recorder,
-    alloc: Global,
-    term: &Term,
-    premise: &Rec,
-) -> Result<Rec, Fault>
+fn with_names(recorder: &mut Recorder, term: &Term, premise: &Rec) -> Result<Rec, Fault>
     requires premise { IsMade recorder.old premise.now }
     requires formula { IsFormula recorder.old.theory term.now }
     requires same { image premise.now.theorem.conclusion ≡ image term.now }
@@ -117,15 +112,14 @@ fn with_names(
     let _premise = recorder.thm(premise).concl();
     let _type = term.ty();
     recorder.theory_is_legal();
-    let reflexive = refl_known(recorder, alloc, term)?;
-    eq_mp_known(recorder, alloc, &reflexive, premise)
+    let reflexive = refl_known(recorder, term)?;
+    eq_mp_known(recorder, &reflexive, premise)
 }
 
 // From `!x. p`, `p`, with primes at `x` where it is free in the conclusion or in the hypotheses; the other bound names stay,
 // but where a binder captures the primed one.
 pub(crate) fn at_fresh_variable(
     recorder: &mut Recorder,
-    alloc: Global,
     logic: &Bool,
     hypotheses: &[Term],
     premise: &Rec,
@@ -137,6 +131,7 @@ pub(crate) fn at_fresh_variable(
     ensures ok { IfOk result (λ made. IsFreshInstance hypotheses.now premise.now.theorem made.theorem) }
     ensures err { IfErr result (λ fault. IsPast fault (are_small premise.now.theorem)) }
 {
+    let alloc = recorder.alloc();
     let conclusion = conclusion_of(recorder, premise);
     recorder.theory_is_legal();
     let Some(parts) = universal_parts(conclusion) else {
@@ -145,10 +140,10 @@ pub(crate) fn at_fresh_variable(
     let _type = parts.body.ty();
     let avoid = with_others(alloc, conclusion, hypotheses)?;
     let fresh = variant(alloc, &avoid, parts.binder)?;
-    let instance = spec(recorder, alloc, logic, &fresh, premise)?;
+    let instance = spec(recorder, logic, &fresh, premise)?;
     let stated = with_variable_renamed(alloc, parts.binder, &fresh, parts.body)?;
     if aconv(&stated, conclusion_of(recorder, &instance)) {
-        return with_names(recorder, alloc, &stated, &instance);
+        return with_names(recorder, &stated, &instance);
     }
     Ok(instance)
 }

@@ -20,7 +20,6 @@ use hol_journal::{Rec, Recorder};
 use hol_model::Fault;
 use hol_prelude::Bool;
 use hol_terms::Term;
-use std::alloc::Global;
 
 // The theorems whose rules are those of a theorem, or its only rule.
 pub(crate) enum Reduced {
@@ -33,12 +32,7 @@ pub(crate) enum Reduced {
 }
 
 // The parts of `p /\ q`.
-fn parts(
-    recorder: &mut Recorder,
-    alloc: Global,
-    logic: &Bool,
-    theorem: &Rec,
-) -> Result<Reduced, Fault>
+fn parts(recorder: &mut Recorder, logic: &Bool, theorem: &Rec) -> Result<Reduced, Fault>
     requires logic { HasLogic recorder.old logic.now }
     requires made { IsMade recorder.old theorem.now }
     requires form { (p : NamedTerm) × (q : NamedTerm) × (spec.rule_form theorem.now.theorem.conclusion ≡ spec.both p q) }
@@ -46,15 +40,14 @@ fn parts(
     ensures reduced { (under : List NamedTerm) → IsSameSet (map image theorem.now.theorem.hypotheses) (map image under) → IfOk result (IsReduced recorder.new under theorem.now.theorem) }
     ensures err { IfErr result (λ fault. IsPast fault (are_small theorem.now.theorem)) }
 {
-    let left = left_part(recorder, alloc, logic, theorem)?;
-    let right = right_part(recorder, alloc, logic, theorem)?;
+    let left = left_part(recorder, logic, theorem)?;
+    let right = right_part(recorder, logic, theorem)?;
     Ok(Reduced::Parts(left, right))
 }
 
 // The body of `!x. p`.
 fn body(
     recorder: &mut Recorder,
-    alloc: Global,
     logic: &Bool,
     hypotheses: &[Term],
     theorem: &Rec,
@@ -67,18 +60,19 @@ fn body(
     ensures reduced { IfOk result (IsReduced recorder.new hypotheses.now theorem.now.theorem) }
     ensures err { IfErr result (λ fault. IsPast fault (are_small theorem.now.theorem)) }
 {
-    let instance = at_fresh_variable(recorder, alloc, logic, hypotheses, theorem)?;
+    let instance = at_fresh_variable(recorder, logic, hypotheses, theorem)?;
     Ok(Reduced::Body(instance))
 }
 
 // `a = b` itself.
-fn itself(recorder: &mut Recorder, alloc: Global, theorem: &Rec) -> Result<Reduced, Fault>
+fn itself(recorder: &mut Recorder, theorem: &Rec) -> Result<Reduced, Fault>
     requires made { IsMade recorder.old theorem.now }
     requires form { (a : NamedTerm) × (b : NamedTerm) × (spec.rule_form theorem.now.theorem.conclusion ≡ spec.equal a b) }
     ensures goes_on { GoesOn recorder.old recorder.new }
     ensures reduced { (under : List NamedTerm) → IsSameSet (map image theorem.now.theorem.hypotheses) (map image under) → IfOk result (IsReduced recorder.new under theorem.now.theorem) }
     ensures err { IfErr result (λ fault. IsPast fault (are_small theorem.now.theorem)) }
 {
+    let alloc = recorder.alloc();
     let rule = theorem.copy(alloc)?;
     Ok(Reduced::Rule(rule))
 }
@@ -86,7 +80,6 @@ fn itself(recorder: &mut Recorder, alloc: Global, theorem: &Rec) -> Result<Reduc
 // `p <=> F`, from `~p`.
 fn falsity(
     recorder: &mut Recorder,
-    alloc: Global,
     logic: &Bool,
     part: &Term,
     theorem: &Rec,
@@ -98,17 +91,12 @@ fn falsity(
     ensures reduced { (under : List NamedTerm) → IsSameSet (map image theorem.now.theorem.hypotheses) (map image under) → IfOk result (IsReduced recorder.new under theorem.now.theorem) }
     ensures err { IfErr result (λ fault. IsPast fault (are_small theorem.now.theorem)) }
 {
-    let rule = denied(recorder, alloc, logic, part, theorem)?;
+    let rule = denied(recorder, logic, part, theorem)?;
     Ok(Reduced::Rule(rule))
 }
 
 // `p <=> T`, from `p`.
-fn truth(
-    recorder: &mut Recorder,
-    alloc: Global,
-    logic: &Bool,
-    theorem: &Rec,
-) -> Result<Reduced, Fault>
+fn truth(recorder: &mut Recorder, logic: &Bool, theorem: &Rec) -> Result<Reduced, Fault>
     requires logic { HasLogic recorder.old logic.now }
     requires made { IsMade recorder.old theorem.now }
     requires form { (p : NamedTerm) × (spec.rule_form theorem.now.theorem.conclusion ≡ spec.stated p) }
@@ -116,14 +104,13 @@ fn truth(
     ensures reduced { (under : List NamedTerm) → IsSameSet (map image theorem.now.theorem.hypotheses) (map image under) → IfOk result (IsReduced recorder.new under theorem.now.theorem) }
     ensures err { IfErr result (λ fault. IsPast fault (are_small theorem.now.theorem)) }
 {
-    let rule = affirmed(recorder, alloc, logic, theorem)?;
+    let rule = affirmed(recorder, logic, theorem)?;
     Ok(Reduced::Rule(rule))
 }
 
 // One step towards the rules of a theorem, whose hypotheses are these.
 pub(crate) fn reduce(
     recorder: &mut Recorder,
-    alloc: Global,
     logic: &Bool,
     hypotheses: &[Term],
     theorem: &Rec,
@@ -137,10 +124,10 @@ pub(crate) fn reduce(
 {
     let conclusion = conclusion_of(recorder, theorem);
     match rule_form(conclusion) {
-        Form::Both(_, _) => parts(recorder, alloc, logic, theorem),
-        Form::Every(_, _, _) => body(recorder, alloc, logic, hypotheses, theorem),
-        Form::Equal(_, _) => itself(recorder, alloc, theorem),
-        Form::Denied(part) => falsity(recorder, alloc, logic, part, theorem),
-        Form::Stated(_) => truth(recorder, alloc, logic, theorem),
+        Form::Both(_, _) => parts(recorder, logic, theorem),
+        Form::Every(_, _, _) => body(recorder, logic, hypotheses, theorem),
+        Form::Equal(_, _) => itself(recorder, theorem),
+        Form::Denied(part) => falsity(recorder, logic, part, theorem),
+        Form::Stated(_) => truth(recorder, logic, theorem),
     }
 }

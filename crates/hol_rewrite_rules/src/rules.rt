@@ -40,7 +40,6 @@ fn both(mut rules: Vec<Rec>, mut more: Vec<Rec>) -> Result<Vec<Rec>, Fault>
 #[tactic(auto, using(crate::proofs::Reducing::reducing))]
 fn rules_under(
     recorder: &mut Recorder,
-    alloc: Global,
     logic: &Bool,
     hypotheses: &[Term],
     theorem: &Rec,
@@ -53,13 +52,14 @@ fn rules_under(
     ensures ok { IfOk result (λ rules. HasRules hypotheses.now theorem.now.theorem.conclusion (theorems rules.items)) }
     ensures err { IfErr result (λ fault. IsPast fault (are_small theorem.now.theorem)) }
 {
-    match reduce(recorder, alloc, logic, hypotheses, theorem) {
+    let alloc = recorder.alloc();
+    match reduce(recorder, logic, hypotheses, theorem) {
         Ok(Reduced::Parts(left, right)) => {
-            let rules = rules_under(recorder, alloc, logic, hypotheses, &left)?;
-            let more = rules_under(recorder, alloc, logic, hypotheses, &right)?;
+            let rules = rules_under(recorder, logic, hypotheses, &left)?;
+            let more = rules_under(recorder, logic, hypotheses, &right)?;
             both(rules, more)
         }
-        Ok(Reduced::Body(body)) => rules_under(recorder, alloc, logic, hypotheses, &body),
+        Ok(Reduced::Body(body)) => rules_under(recorder, logic, hypotheses, &body),
         Ok(Reduced::Rule(rule)) => one(alloc, rule),
         Err(fault) => Err(fault),
     }
@@ -70,12 +70,7 @@ fn rules_under(
 /// where it is free in the theorem, of `a = b` itself, of `~p` the rule `p <=> F`, and of another `p` the rule `p <=> T`.
 ///
 /// Refused where a term of the theorem is not small and a term on the way passes a limit (`TooLarge`).
-pub fn rules_of(
-    recorder: &mut Recorder,
-    alloc: Global,
-    logic: &Bool,
-    theorem: &Rec,
-) -> Result<Vec<Rec>, Fault>
+pub fn rules_of(recorder: &mut Recorder, logic: &Bool, theorem: &Rec) -> Result<Vec<Rec>, Fault>
     requires logic { HasLogic recorder.old logic.now }
     requires made { IsMade recorder.old theorem.now }
     ensures goes_on { GoesOn recorder.old recorder.new }
@@ -84,5 +79,5 @@ pub fn rules_of(
     ensures err { IfErr result (λ fault. AnswersRules theorem.now.theorem (Err fault)) }
 {
     let hypotheses = recorder.thm(theorem).hyps();
-    rules_under(recorder, alloc, logic, hypotheses, theorem)
+    rules_under(recorder, logic, hypotheses, theorem)
 }

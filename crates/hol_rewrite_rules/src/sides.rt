@@ -12,47 +12,31 @@ use hol_equal::conclusion_of;
 use hol_journal::{Rec, Recorder};
 use hol_model::Fault;
 use hol_prelude::Bool;
-use std::alloc::Global;
 
 // From `p /\ q`, `p`.
-pub(crate) fn left_part(
-    recorder: &mut Recorder,
-    alloc: Global,
-    logic: &Bool,
-    premise: &Rec,
-) -> Result<Rec, Fault>
+pub(crate) fn left_part(recorder: &mut Recorder, logic: &Bool, premise: &Rec) -> Result<Rec, Fault>
     requires logic { HasLogic recorder.old logic.now }
     requires premise { IsMade recorder.old premise.now }
     ensures continues { Continues recorder.old recorder.new result }
     ensures ok { (p q : NamedTerm) → dest_conjunction premise.now.theorem.conclusion ≡ Some (p, q) → IfOk result (λ made. Concludes premise.now.theorem p made.theorem) }
     ensures err { (p q : NamedTerm) → dest_conjunction premise.now.theorem.conclusion ≡ Some (p, q) → IfErr result (λ fault. IsPast fault (are_small premise.now.theorem)) }
 {
-    conjunct1(recorder, alloc, logic, premise)
+    conjunct1(recorder, logic, premise)
 }
 
 // From `p /\ q`, `q`.
-pub(crate) fn right_part(
-    recorder: &mut Recorder,
-    alloc: Global,
-    logic: &Bool,
-    premise: &Rec,
-) -> Result<Rec, Fault>
+pub(crate) fn right_part(recorder: &mut Recorder, logic: &Bool, premise: &Rec) -> Result<Rec, Fault>
     requires logic { HasLogic recorder.old logic.now }
     requires premise { IsMade recorder.old premise.now }
     ensures continues { Continues recorder.old recorder.new result }
     ensures ok { (p q : NamedTerm) → dest_conjunction premise.now.theorem.conclusion ≡ Some (p, q) → IfOk result (λ made. Concludes premise.now.theorem q made.theorem) }
     ensures err { (p q : NamedTerm) → dest_conjunction premise.now.theorem.conclusion ≡ Some (p, q) → IfErr result (λ fault. IsPast fault (are_small premise.now.theorem)) }
 {
-    conjunct2(recorder, alloc, logic, premise)
+    conjunct2(recorder, logic, premise)
 }
 
 // From `p`, `p <=> T`.
-pub(crate) fn affirmed(
-    recorder: &mut Recorder,
-    alloc: Global,
-    logic: &Bool,
-    premise: &Rec,
-) -> Result<Rec, Fault>
+pub(crate) fn affirmed(recorder: &mut Recorder, logic: &Bool, premise: &Rec) -> Result<Rec, Fault>
     requires logic { HasLogic recorder.old logic.now }
     requires premise { IsMade recorder.old premise.now }
     ensures continues { Continues recorder.old recorder.new result }
@@ -60,5 +44,5 @@ pub(crate) fn affirmed(
     ensures err { IfErr result (λ fault. IsPast fault (are_small premise.now.theorem)) }
 {
     let _conclusion = conclusion_of(recorder, premise);
-    eqt_intro(recorder, alloc, logic, premise)
+    eqt_intro(recorder, logic, premise)
 }

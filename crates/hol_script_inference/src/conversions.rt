@@ -36,5 +36,5 @@ pub(crate) fn conversion<H: Refiners>(
 {
     let term = session.known_term(alloc, steps)?;
     let mut fuel = Fuel::new(STEPS_LIMIT);
-    apply(&mut session.library, alloc, hosts, conv, &term, &mut fuel)
+    apply(&mut session.library, hosts, conv, &term, &mut fuel)
 }

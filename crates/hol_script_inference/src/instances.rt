@@ -69,7 +69,6 @@ pub(crate) fn inst(
     let rule = Rule::Inst(theta);
     apply_rule(
         &mut session.library.recorder,
-        alloc,
         &session.library.logic,
         &rule,
         &[premise],
@@ -123,7 +122,6 @@ pub(crate) fn inst_type(
     let rule = Rule::InstType(theta);
     apply_rule(
         &mut session.library.recorder,
-        alloc,
         &session.library.logic,
         &rule,
         &[premise],

@@ -47,7 +47,6 @@ pub(crate) fn by_name(
     };
     apply_rule(
         &mut session.library.recorder,
-        alloc,
         &session.library.logic,
         &rule,
         &premises,

@@ -35,12 +35,7 @@ pub(crate) fn tautology(
     };
     term.well_formed();
     term.well_named();
-    match taut(
-        &mut session.library.recorder,
-        alloc,
-        &session.library.laws,
-        &term,
-    ) {
+    match taut(&mut session.library.recorder, &session.library.laws, &term) {
         Ok(theorem) => Ok(theorem),
         Err(fault) => Err(refusal_with_row(alloc, &session.scope, &term, fault)),
     }

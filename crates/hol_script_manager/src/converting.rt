@@ -24,7 +24,7 @@ impl Conversions for ByExpression {
         t: &Term,
         fuel: &mut Fuel,
     ) -> Result<Rec, Fault> {
-        apply(library, alloc, hosts, conv, t, fuel)
+        apply(library, hosts, conv, t, fuel)
     }
 
     fn rewrite<H: Converters>(
@@ -36,6 +36,6 @@ impl Conversions for ByExpression {
         t: &Term,
         fuel: &mut Fuel,
     ) -> Result<Rec, Fault> {
-        rewrite(library, alloc, hosts, rules, t, fuel)
+        rewrite(library, hosts, rules, t, fuel)
     }
 }

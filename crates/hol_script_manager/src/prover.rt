@@ -42,7 +42,6 @@ impl Leaves for Prover {
     ) -> Result<Step, Fault> {
         refine(
             &mut self.session.library,
-            alloc,
             &ByExpression,
             host,
             leaf,
@@ -55,7 +54,6 @@ impl Leaves for Prover {
         let library = &mut self.session.library;
         accept(
             &mut library.recorder,
-            alloc,
             &library.logic,
             &library.store,
             goal,
@@ -74,7 +72,7 @@ impl hol_goals::Prover for Prover {
     ghost journal = { λ prover. prover.session.library.recorder };
 
     fn prove(&mut self, alloc: Global, goal: &Goal, just: &Just) -> Result<Rec, Fault> {
-        prove(&mut self.session.library, alloc, goal, just)
+        prove(&mut self.session.library, goal, just)
     }
 
     ghost extends_makes = { λ old new further. further-makes old new further };

@@ -10,17 +10,11 @@ use hol_journal::{Rec, journals_grow};
 use hol_just::{Goal, Just};
 use hol_model::Fault;
 use hol_theorem_library::{Library, libraries_continue};
-use std::alloc::Global;
 
 /// The theorem of the goal's own term by a justification without subgoals: the justification is replayed once, and what it
 /// proves is given the goal's term. Refused as the replay is, then InvalidStep where its theorem does not achieve the goal, and
 /// TooLarge where the equation of the goal's term is; Memory.
-pub(crate) fn prove(
-    library: &mut Library,
-    alloc: Global,
-    goal: &Goal,
-    just: &Just,
-) -> Result<Rec, Fault>
+pub(crate) fn prove(library: &mut Library, goal: &Goal, just: &Just) -> Result<Rec, Fault>
     requires library { IsLibrary library.old }
     ensures outcome { Proves library.old.recorder.theory (store_in library.old) (goal_of goal.now) (tree_of just.now) (theorem_in result) }
     ensures continued { IsContinued library.old library.new }
@@ -31,11 +25,10 @@ pub(crate) fn prove(
     libraries_continue();
     let theorem = replay(
         &mut library.recorder,
-        alloc,
         &library.logic,
         &library.store,
         just,
         &[],
     )?;
-    closed(&mut library.recorder, alloc, goal, &theorem)
+    closed(&mut library.recorder, goal, &theorem)
 }

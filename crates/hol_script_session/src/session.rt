@@ -231,7 +231,7 @@ impl Session {
             Err(_) => return Err(Fault::Memory),
         }
         libraries_grow();
-        match self.library.recorder.new_type(alloc, name) {
+        match self.library.recorder.new_type(name) {
             Ok(()) => Ok(Printed::Nothing),
             Err(fault) => {
                 self.scope.remove_type(name);
@@ -262,7 +262,7 @@ impl Session {
             Err(_) => return Err(Fault::Memory),
         }
         libraries_grow();
-        match self.library.recorder.new_const(alloc, name, &ty) {
+        match self.library.recorder.new_const(name, &ty) {
             Ok(()) => Ok(Printed::Nothing),
             Err(fault) => {
                 self.scope.remove_const(name);
@@ -283,7 +283,7 @@ impl Session {
     {
         let _entry = self.library.recorder.stored(0);
         match claims(alloc, &self.library.store, names) {
-            Ok(claims) => log_text(&self.library.recorder, alloc, &claims),
+            Ok(claims) => log_text(&self.library.recorder, &claims),
             Err(fault) => Err(fault),
         }
     }
@@ -336,7 +336,7 @@ impl Session {
         };
         self.library.store.room()?;
         journals_grow();
-        let theorem = self.library.recorder.define(alloc, name, term)?;
+        let theorem = self.library.recorder.define(name, term)?;
         self.library.recorder.thm(&theorem).well_formed();
         self.library.store.put_made(key, theorem);
         Ok(line)
@@ -348,7 +348,7 @@ impl Session {
         ensures fault { (result ≡ Memory) ⊎ (define_outcome self.old.library.recorder.theory name.now term.now ≡ Err result) }
         ensures kept { self.new ≡ self.old }
     {
-        match self.library.recorder.define(alloc, name, term) {
+        match self.library.recorder.define(name, term) {
             Ok(_) => unreachable!(),
             Err(fault) => fault,
         }
@@ -360,7 +360,7 @@ impl Session {
         ensures fault { (result ≡ Memory) ⊎ (new_type_outcome self.old.library.recorder.theory name.now ≡ Err result) }
         ensures kept { self.new ≡ self.old }
     {
-        match self.library.recorder.new_type(alloc, name) {
+        match self.library.recorder.new_type(name) {
             Ok(()) => unreachable!(),
             Err(fault) => fault,
         }
@@ -372,7 +372,7 @@ impl Session {
         ensures fault { (result ≡ Memory) ⊎ (new_const_outcome self.old.library.recorder.theory name.now ty.now ≡ Err result) }
         ensures kept { self.new ≡ self.old }
     {
-        match self.library.recorder.new_const(alloc, name, ty) {
+        match self.library.recorder.new_const(name, ty) {
             Ok(()) => unreachable!(),
             Err(fault) => fault,
         }

@@ -22,7 +22,6 @@ use hol_taut_chains::{
 use hol_taut_formulas::{Form, form_of};
 use hol_taut_laws::{Law, Laws, law_theorem};
 use hol_terms::Term;
-use std::alloc::Global;
 
 /// What the search for a theorem answers, where that is one of this formula without hypotheses, or a refusal for memory.
 pub(crate) fn judged(
@@ -50,7 +49,7 @@ pub(crate) fn judged(
 }
 
 // What is left of a formula whose chains are in normal form, which is true with it.
-fn rest(recorder: &mut Recorder, alloc: Global, laws: &Laws, shortest: &Rec) -> Result<Rec, Fault>
+fn rest(recorder: &mut Recorder, laws: &Laws, shortest: &Rec) -> Result<Rec, Fault>
     requires laws { HasLaws recorder.old laws.now }
     requires shortest { IsMade recorder.old shortest.now }
     ensures continues { Continues recorder.old recorder.new result }
@@ -59,8 +58,8 @@ fn rest(recorder: &mut Recorder, alloc: Global, laws: &Laws, shortest: &Rec) -> 
         return Err(Fault::BadShape);
     };
     match form_of(rest) {
-        Form::Constantly(true) => constantly(recorder, alloc, laws, true),
-        _ => by_chains(recorder, alloc, laws, rest),
+        Form::Constantly(true) => constantly(recorder, laws, true),
+        _ => by_chains(recorder, laws, rest),
     }
 }
 
@@ -68,7 +67,6 @@ fn rest(recorder: &mut Recorder, alloc: Global, laws: &Laws, shortest: &Rec) -> 
 #[tactic(auto, using(crate::proofs::LawLemmas::in_a_row))]
 fn from_equal(
     recorder: &mut Recorder,
-    alloc: Global,
     equation: &Rec,
     made: Result<Rec, Fault>,
 ) -> Result<Rec, Fault>
@@ -77,31 +75,25 @@ fn from_equal(
     ensures continues { Continues recorder.old recorder.new result }
 {
     let made = made?;
-    let back = sym(recorder, alloc, equation)?;
-    eq_mp(recorder, alloc, &back, &made)
+    let back = sym(recorder, equation)?;
+    eq_mp(recorder, &back, &made)
 }
 
 // The formula, from its equivalence with what is left of it.
 #[tactic(auto, using(crate::proofs::LawLemmas::in_a_row))]
-fn from_rest(
-    recorder: &mut Recorder,
-    alloc: Global,
-    laws: &Laws,
-    shortest: &Rec,
-) -> Result<Rec, Fault>
+fn from_rest(recorder: &mut Recorder, laws: &Laws, shortest: &Rec) -> Result<Rec, Fault>
     requires laws { HasLaws recorder.old laws.now }
     requires shortest { IsMade recorder.old shortest.now }
     ensures continues { Continues recorder.old recorder.new result }
 {
-    let rest = rest(recorder, alloc, laws, shortest);
-    from_equal(recorder, alloc, shortest, rest)
+    let rest = rest(recorder, laws, shortest);
+    from_equal(recorder, shortest, rest)
 }
 
 // A formula, by these laws.
 #[tactic(auto, using(crate::proofs::LawLemmas::in_a_row))]
 fn by_chain_laws(
     recorder: &mut Recorder,
-    alloc: Global,
     laws: &Laws,
     chain_laws: &ChainLaws,
     term: &Term,
@@ -110,22 +102,17 @@ fn by_chain_laws(
     requires chain_laws { HasChainLaws recorder.old chain_laws.now }
     ensures continues { Continues recorder.old recorder.new result }
 {
-    let shortest = normal_form(recorder, alloc, chain_laws, term, term)?;
-    from_rest(recorder, alloc, laws, &shortest)
+    let shortest = normal_form(recorder, chain_laws, term, term)?;
+    from_rest(recorder, laws, &shortest)
 }
 
 // A law of chains.
-fn chain_law(
-    recorder: &mut Recorder,
-    alloc: Global,
-    laws: &Laws,
-    law: Result<Term, Fault>,
-) -> Result<Rec, Fault>
+fn chain_law(recorder: &mut Recorder, laws: &Laws, law: Result<Term, Fault>) -> Result<Rec, Fault>
     requires { HasLaws recorder.old laws.now }
     ensures continues { Continues recorder.old recorder.new result }
 {
     match law {
-        Ok(law) => by_splits(recorder, alloc, laws, &law),
+        Ok(law) => by_splits(recorder, laws, &law),
         Err(fault) => Err(fault),
     }
 }
@@ -133,18 +120,14 @@ fn chain_law(
 // A formula, from what is left of it where the chains that stand in it are in normal form. Each part of a chain takes
 // inferences by the depth of its place, so that n parts take about the square of n, and the laws of chains some four hundred
 // once.
-fn by_normal_form(
-    recorder: &mut Recorder,
-    alloc: Global,
-    laws: &Laws,
-    term: &Term,
-) -> Result<Rec, Fault>
+fn by_normal_form(recorder: &mut Recorder, laws: &Laws, term: &Term) -> Result<Rec, Fault>
     requires laws { HasLaws recorder.old laws.now }
     ensures continues { Continues recorder.old recorder.new result }
 {
-    let commuted = chain_law(recorder, alloc, laws, commuted(alloc))?;
-    let exchanged = chain_law(recorder, alloc, laws, exchanged(alloc))?;
-    let paired = chain_law(recorder, alloc, laws, paired(alloc))?;
+    let alloc = recorder.alloc();
+    let commuted = chain_law(recorder, laws, commuted(alloc))?;
+    let exchanged = chain_law(recorder, laws, exchanged(alloc))?;
+    let paired = chain_law(recorder, laws, paired(alloc))?;
     let truth = law_theorem(recorder, laws, Law::Truth).copy(alloc)?;
     let chain_laws = ChainLaws {
         truth,
@@ -152,34 +135,25 @@ fn by_normal_form(
         exchanged,
         paired,
     };
-    by_chain_laws(recorder, alloc, laws, &chain_laws, term)
+    by_chain_laws(recorder, laws, &chain_laws, term)
 }
 
 // The laws by which negations are taken out of chains.
 #[tactic(auto, using(crate::proofs::LawLemmas::in_a_row))]
-fn without_negated(
-    recorder: &mut Recorder,
-    alloc: Global,
-    laws: &Laws,
-    term: &Term,
-) -> Result<Rec, Fault>
+fn without_negated(recorder: &mut Recorder, laws: &Laws, term: &Term) -> Result<Rec, Fault>
     requires laws { HasLaws recorder.old laws.now }
     ensures continues { Continues recorder.old recorder.new result }
 {
-    let left = chain_law(recorder, alloc, laws, negated_left(alloc))?;
-    let right = chain_law(recorder, alloc, laws, negated_right(alloc))?;
-    let twice = chain_law(recorder, alloc, laws, negated_twice(alloc))?;
-    without_negations(recorder, alloc, &NegationLaws { left, right, twice }, term)
+    let alloc = recorder.alloc();
+    let left = chain_law(recorder, laws, negated_left(alloc))?;
+    let right = chain_law(recorder, laws, negated_right(alloc))?;
+    let twice = chain_law(recorder, laws, negated_twice(alloc))?;
+    without_negations(recorder, &NegationLaws { left, right, twice }, term)
 }
 
 // From `formula <=> rest`, the formula, by the rest's normal form.
 #[tactic(auto, using(crate::proofs::LawLemmas::in_a_row))]
-fn from_positive(
-    recorder: &mut Recorder,
-    alloc: Global,
-    laws: &Laws,
-    positive: &Rec,
-) -> Result<Rec, Fault>
+fn from_positive(recorder: &mut Recorder, laws: &Laws, positive: &Rec) -> Result<Rec, Fault>
     requires laws { HasLaws recorder.old laws.now }
     requires positive { IsMade recorder.old positive.now }
     ensures continues { Continues recorder.old recorder.new result }
@@ -187,45 +161,35 @@ fn from_positive(
     let Some((_, rest)) = sides_of(conclusion_of(recorder, positive)) else {
         return Err(Fault::BadShape);
     };
-    let made = by_normal_form(recorder, alloc, laws, rest);
-    from_equal(recorder, alloc, positive, made)
+    let made = by_normal_form(recorder, laws, rest);
+    from_equal(recorder, positive, made)
 }
 
 // A formula, from what it is equal to without negated parts of chains.
 #[tactic(auto, using(hol_equal::proofs::StepLemmas::now_made, hol_taut_chains::proofs::ChainLemmas::continued_twice, crate::proofs::LawLemmas::still_lawful))]
-fn by_positive(
-    recorder: &mut Recorder,
-    alloc: Global,
-    laws: &Laws,
-    term: &Term,
-) -> Result<Rec, Fault>
+fn by_positive(recorder: &mut Recorder, laws: &Laws, term: &Term) -> Result<Rec, Fault>
     requires laws { HasLaws recorder.old laws.now }
     ensures continues { Continues recorder.old recorder.new result }
 {
-    let positive = without_negated(recorder, alloc, laws, term)?;
-    from_positive(recorder, alloc, laws, &positive)
+    let positive = without_negated(recorder, laws, term)?;
+    from_positive(recorder, laws, &positive)
 }
 
 /// A formula with long chains: by splits over its chains and its atoms, or else by normal forms. A search whose answer is to be
 /// judged.
 #[tactic(auto, using(hol_taut_chains::proofs::ChainLemmas::continued_twice, crate::proofs::LawLemmas::still_lawful))]
-pub(crate) fn shortened(
-    recorder: &mut Recorder,
-    alloc: Global,
-    laws: &Laws,
-    term: &Term,
-) -> Result<Rec, Fault>
+pub(crate) fn shortened(recorder: &mut Recorder, laws: &Laws, term: &Term) -> Result<Rec, Fault>
     requires laws { HasLaws recorder.old laws.now }
     ensures continues { Continues recorder.old recorder.new result }
 {
-    match generally(recorder, alloc, laws, term) {
+    match generally(recorder, laws, term) {
         Ok(made) => Ok(made),
         Err(Fault::Memory) => Err(Fault::Memory),
         Err(_) => {
             if has_negated_part(term) {
-                by_positive(recorder, alloc, laws, term)
+                by_positive(recorder, laws, term)
             } else {
-                by_normal_form(recorder, alloc, laws, term)
+                by_normal_form(recorder, laws, term)
             }
         }
     }

@@ -17,26 +17,25 @@ use hol_journal::{Rec, Recorder};
 use hol_model::Fault;
 use hol_taut_laws::{Law, Laws};
 use hol_terms::Term;
-use std::alloc::Global;
 
 // A formula, from `F` as a hypothesis.
-fn from_falsity(recorder: &mut Recorder, alloc: Global, laws: &Laws, p: &Term) -> Result<Rec, Fault>
+fn from_falsity(recorder: &mut Recorder, laws: &Laws, p: &Term) -> Result<Rec, Fault>
     requires laws { HasLaws recorder.old laws.now }
     requires formula { IsFormula recorder.old.theory p.now }
     ensures continues { Continues recorder.old recorder.new result }
     ensures proves { (allowed : List Nameless) (room : Room) → FitsIf room (image p.now) → ProvesIf room result (nameless.false_term ∷ allowed) (image p.now) }
 {
+    let alloc = recorder.alloc();
     recorder.theory_is_legal();
     let falsity = falsity(alloc)?;
-    let assumed = assume(recorder, alloc, &falsity)?;
-    by_one(recorder, alloc, laws, Law::Contr, p, p, &assumed)
+    let assumed = assume(recorder, &falsity)?;
+    by_one(recorder, laws, Law::Contr, p, p, &assumed)
 }
 
 /// From what gives `F`, `p <=> F` without the hypothesis `p`.
 #[tactic(none)]
 pub(crate) fn denied_by(
     recorder: &mut Recorder,
-    alloc: Global,
     laws: &Laws,
     p: &Term,
     absurd: &Rec,
@@ -47,6 +46,6 @@ pub(crate) fn denied_by(
     ensures continues { Continues recorder.old recorder.new result }
     ensures proves { FalsityDenies (image p.now) absurd.now.theorem result }
 {
-    let given = from_falsity(recorder, alloc, laws, p)?;
-    by_both(recorder, alloc, &given, absurd)
+    let given = from_falsity(recorder, laws, p)?;
+    by_both(recorder, &given, absurd)
 }

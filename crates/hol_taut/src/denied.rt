@@ -12,7 +12,6 @@ use hol_model::Fault;
 use hol_taut_formulas::atoms_of_tautology;
 use hol_taut_laws::Laws;
 use hol_terms::Term;
-use std::alloc::Global;
 
 /// The denial of a tautology, and the atoms of both.
 #[derive(Drop)]
@@ -24,16 +23,12 @@ pub(crate) struct Denied {
 
 /// The denial of a term that comes in, where that is a tautology.
 #[tactic(none)]
-pub(crate) fn deny(
-    recorder: &Recorder,
-    alloc: Global,
-    _laws: &Laws,
-    term: &Term,
-) -> Result<Denied, Fault>
+pub(crate) fn deny(recorder: &Recorder, _laws: &Laws, term: &Term) -> Result<Denied, Fault>
     requires laws { HasLaws recorder.now _laws.now }
     ensures ok { IfOk result (IsDenied recorder.now.theory term.now) }
     ensures err { IfErr result (λ fault. AnswersSmall (Err fault) (image term.now) (tautology_outcome recorder.now.theory term.now)) }
 {
+    let alloc = recorder.alloc();
     pass_formula(recorder, term)?;
     let atoms = atoms_of_tautology(alloc, term)?;
     recorder.theory_is_legal();

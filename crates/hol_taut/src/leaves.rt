@@ -18,12 +18,10 @@ use hol_journal::{Rec, Recorder};
 use hol_model::Fault;
 use hol_taut_laws::{Law, Laws, law_theorem};
 use hol_terms::Term;
-use std::alloc::Global;
 
 /// The theorem of an atom's fact.
 pub(crate) fn from_fact(
     _recorder: &mut Recorder,
-    alloc: Global,
     term: &Term,
     facts: &Facts<'_>,
 ) -> Result<Rec, Fault>
@@ -33,6 +31,7 @@ pub(crate) fn from_fact(
     ensures err { IfErr result (λ fault. fault ≡ Memory) }
     ensures proves { (allowed : List Nameless) → AreProved allowed facts.now → IfOk result (λ made. IsOfFact allowed facts.now term.now made.theorem) }
 {
+    let alloc = _recorder.alloc();
     match fact_of(&*facts, term) {
         Some(known) => known.theorem.copy(alloc),
         None => unreachable!(),
@@ -40,23 +39,19 @@ pub(crate) fn from_fact(
 }
 
 /// `T`, or `F <=> F`.
-pub(crate) fn constantly(
-    recorder: &mut Recorder,
-    alloc: Global,
-    laws: &Laws,
-    value: bool,
-) -> Result<Rec, Fault>
+pub(crate) fn constantly(recorder: &mut Recorder, laws: &Laws, value: bool) -> Result<Rec, Fault>
     requires { HasLaws recorder.old laws.now }
     ensures continues { Continues recorder.old recorder.new result }
     ensures proves { (allowed : List Nameless) (room : Room) → ProvesIf room result allowed (constant_fact value) }
 {
+    let alloc = recorder.alloc();
     if value {
         let truth = law_theorem(recorder, laws, Law::Truth);
         let conclusion = conclusion_of(recorder, truth);
-        return named(recorder, alloc, conclusion, truth);
+        return named(recorder, conclusion, truth);
     }
     recorder.theory_is_legal();
     let falsity = falsity(alloc)?;
-    let assumed = assume(recorder, alloc, &falsity)?;
-    by_both(recorder, alloc, &assumed, &assumed)
+    let assumed = assume(recorder, &falsity)?;
+    by_both(recorder, &assumed, &assumed)
 }

@@ -86,35 +86,26 @@ fn earlier<'a>(recorder: &Recorder, made: &'a [Rec], number: usize) -> Result<&'
 }
 
 // REFL of a formula.
-fn refl_of(
-    recorder: &mut Recorder,
-    alloc: Global,
-    plan: &Plan,
-    formula: Formula,
-) -> Result<Rec, Fault>
+fn refl_of(recorder: &mut Recorder, plan: &Plan, formula: Formula) -> Result<Rec, Fault>
     ensures continues { Continues recorder.old recorder.new result }
 {
+    let alloc = recorder.alloc();
     let formula = formula_of(alloc, plan, formula)?;
-    reflexive(recorder, alloc, &formula)
+    reflexive(recorder, &formula)
 }
 
 // ASSUME of a formula.
-fn assume_of(
-    recorder: &mut Recorder,
-    alloc: Global,
-    plan: &Plan,
-    formula: Formula,
-) -> Result<Rec, Fault>
+fn assume_of(recorder: &mut Recorder, plan: &Plan, formula: Formula) -> Result<Rec, Fault>
     ensures continues { Continues recorder.old recorder.new result }
 {
+    let alloc = recorder.alloc();
     let formula = formula_of(alloc, plan, formula)?;
-    assume(recorder, alloc, &formula)
+    assume(recorder, &formula)
 }
 
 // A law at formulas.
 fn law_at(
     recorder: &mut Recorder,
-    alloc: Global,
     laws: &Laws,
     law: Law,
     formulas: Result<Vec<(Term, Term)>, Fault>,
@@ -124,13 +115,12 @@ fn law_at(
 {
     let formulas = formulas?;
     let lemma = law_theorem(recorder, laws, law);
-    instance(recorder, alloc, &formulas, lemma)
+    instance(recorder, &formulas, lemma)
 }
 
 // A rule of two earlier theorems.
 fn by_rule(
     recorder: &mut Recorder,
-    alloc: Global,
     made: &[Rec],
     rule: Rule,
     first: usize,
@@ -142,16 +132,15 @@ fn by_rule(
     let first = earlier(recorder, made, first)?;
     let second = earlier(recorder, made, second)?;
     match rule {
-        Rule::DeductAntisym => deduct_antisym(recorder, alloc, first, second),
-        Rule::EqMp => eq_mp(recorder, alloc, first, second),
-        Rule::Trans => trans(recorder, alloc, first, second),
+        Rule::DeductAntisym => deduct_antisym(recorder, first, second),
+        Rule::EqMp => eq_mp(recorder, first, second),
+        Rule::Trans => trans(recorder, first, second),
     }
 }
 
 // The theorem of a step, by those of the earlier ones.
 fn taken(
     recorder: &mut Recorder,
-    alloc: Global,
     laws: &Laws,
     plan: &Plan,
     made: &[Rec],
@@ -161,15 +150,16 @@ fn taken(
     requires made { AreMade recorder.old made.now }
     ensures continues { Continues recorder.old recorder.new result }
 {
+    let alloc = recorder.alloc();
     match step {
-        Step::Truth => constantly(recorder, alloc, laws, true),
-        Step::Refl(formula) => refl_of(recorder, alloc, plan, formula),
-        Step::Assume(formula) => assume_of(recorder, alloc, plan, formula),
+        Step::Truth => constantly(recorder, laws, true),
+        Step::Refl(formula) => refl_of(recorder, plan, formula),
+        Step::Assume(formula) => assume_of(recorder, plan, formula),
         Step::Inst(law, p, q) => {
             let formulas = formulas_for(alloc, plan, p, q);
-            law_at(recorder, alloc, laws, law_of(law), formulas)
+            law_at(recorder, laws, law_of(law), formulas)
         }
-        Step::Rule(rule, first, second) => by_rule(recorder, alloc, made, rule, first, second),
+        Step::Rule(rule, first, second) => by_rule(recorder, made, rule, first, second),
     }
 }
 
@@ -185,7 +175,6 @@ fn pushed(made: &mut Vec<Rec>, theorem: Rec) -> Result<(), Fault>
 // The theorems of all steps.
 fn all_taken(
     recorder: &mut Recorder,
-    alloc: Global,
     laws: &Laws,
     plan: &Plan,
     steps: &[Step],
@@ -195,36 +184,37 @@ fn all_taken(
     ensures theory { recorder.new.theory ≡ recorder.old.theory }
     ensures made { IfOk result (λ all. AreMade recorder.new all.items) }
 {
+    let alloc = recorder.alloc();
     let mut made = Vec::new(alloc);
     for step in steps {
-        let theorem = taken(recorder, alloc, laws, plan, &made, *step)?;
+        let theorem = taken(recorder, laws, plan, &made, *step)?;
         pushed(&mut made, theorem)?;
     }
     Ok(made)
 }
 
 // The theorem of the last step.
-fn by_plan(recorder: &mut Recorder, alloc: Global, laws: &Laws, plan: &Plan) -> Result<Rec, Fault>
+fn by_plan(recorder: &mut Recorder, laws: &Laws, plan: &Plan) -> Result<Rec, Fault>
     requires laws { HasLaws recorder.old laws.now }
     ensures continues { Continues recorder.old recorder.new result }
 {
     let Some((last, steps)) = plan.steps().split_last() else {
         return Err(Fault::BadShape);
     };
-    let made = all_taken(recorder, alloc, laws, plan, steps)?;
-    taken(recorder, alloc, laws, plan, &made, *last)
+    let made = all_taken(recorder, laws, plan, steps)?;
+    taken(recorder, laws, plan, &made, *last)
 }
 
 /// A formula by the steps of a plan. A search whose answer is to be judged.
 pub(crate) fn by_planned_steps(
     recorder: &mut Recorder,
-    alloc: Global,
     laws: &Laws,
     term: &Term,
 ) -> Result<Rec, Fault>
     requires laws { HasLaws recorder.old laws.now }
     ensures continues { Continues recorder.old recorder.new result }
 {
+    let alloc = recorder.alloc();
     let plan = planned(alloc, term)?;
-    by_plan(recorder, alloc, laws, &plan)
+    by_plan(recorder, laws, &plan)
 }

@@ -25,7 +25,6 @@ use hol_journal::{Rec, Recorder};
 use hol_model::Fault;
 use hol_taut_laws::Laws;
 use hol_terms::Term;
-use std::alloc::Global;
 
 // Whether the facts tell that the formula is true.
 fn is_told_true(term: &Term, facts: &Facts<'_>) -> bool
@@ -42,7 +41,6 @@ fn is_told_true(term: &Term, facts: &Facts<'_>) -> bool
 #[tactic(none)]
 pub(crate) fn refuted(
     recorder: &mut Recorder,
-    alloc: Global,
     laws: &Laws,
     term: &Term,
     denied: &Rec,
@@ -60,16 +58,16 @@ pub(crate) fn refuted(
     ensures proves { DenialRefutes term.now denied.now.theorem atoms.now facts.now result }
 {
     if is_told_true(term, &*facts) {
-        let holds = shown(recorder, alloc, laws, term, true, &*facts)?;
-        return by_equation(recorder, alloc, denied, &holds);
+        let holds = shown(recorder, laws, term, true, &*facts)?;
+        return by_equation(recorder, denied, &holds);
     }
     let Some(atom) = next_atom(term, atoms, denied, &*facts) else {
         unreachable!();
     };
-    let assumed = assume(recorder, alloc, atom)?;
+    let assumed = assume(recorder, atom)?;
     let with_true = Facts::Fact(atom, true, &assumed, &*facts);
-    let absurd = refuted(recorder, alloc, laws, term, denied, atoms, &with_true)?;
-    let fact = denied_by(recorder, alloc, laws, atom, &absurd)?;
+    let absurd = refuted(recorder, laws, term, denied, atoms, &with_true)?;
+    let fact = denied_by(recorder, laws, atom, &absurd)?;
     let with_false = Facts::Fact(atom, false, &fact, &*facts);
-    refuted(recorder, alloc, laws, term, denied, atoms, &with_false)
+    refuted(recorder, laws, term, denied, atoms, &with_false)
 }

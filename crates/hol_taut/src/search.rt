@@ -11,22 +11,16 @@ use hol_taut_chains::{has_long_chain, instance, without_shared};
 use hol_taut_formulas::atoms_of_tautology;
 use hol_taut_laws::Laws;
 use hol_terms::Term;
-use std::alloc::Global;
 
 // A formula by chains that are shortened, where long ones stand in it, and else by splits.
-fn by_chains_or_splits(
-    recorder: &mut Recorder,
-    alloc: Global,
-    laws: &Laws,
-    term: &Term,
-) -> Result<Rec, Fault>
+fn by_chains_or_splits(recorder: &mut Recorder, laws: &Laws, term: &Term) -> Result<Rec, Fault>
     requires laws { HasLaws recorder.old laws.now }
     ensures continues { Continues recorder.old recorder.new result }
 {
     if has_long_chain(term) {
-        shortened(recorder, alloc, laws, term)
+        shortened(recorder, laws, term)
     } else {
-        by_splits(recorder, alloc, laws, term)
+        by_splits(recorder, laws, term)
     }
 }
 
@@ -34,7 +28,6 @@ fn by_chains_or_splits(
 #[tactic(auto, using(hol_equal::proofs::StepLemmas::now_made, hol_taut_chains::proofs::ChainLemmas::continued_twice))]
 fn by_general(
     recorder: &mut Recorder,
-    alloc: Global,
     laws: &Laws,
     general: &Term,
     parts: &[(Term, Term)],
@@ -42,46 +35,43 @@ fn by_general(
     requires laws { HasLaws recorder.old laws.now }
     ensures continues { Continues recorder.old recorder.new result }
 {
+    let alloc = recorder.alloc();
     if let Err(fault) = atoms_of_tautology(alloc, general) {
         return Err(fault);
     }
-    let made = by_chains_or_splits(recorder, alloc, laws, general)?;
-    instance(recorder, alloc, parts, &made)
+    let made = by_chains_or_splits(recorder, laws, general)?;
+    instance(recorder, parts, &made)
 }
 
 // A formula, where it holds for whatever stands in the places of its parts that stand there several times.
-fn by_shared(recorder: &mut Recorder, alloc: Global, laws: &Laws, term: &Term) -> Result<Rec, Fault>
+fn by_shared(recorder: &mut Recorder, laws: &Laws, term: &Term) -> Result<Rec, Fault>
     requires laws { HasLaws recorder.old laws.now }
     ensures continues { Continues recorder.old recorder.new result }
 {
+    let alloc = recorder.alloc();
     let mut parts = Vec::new(alloc);
     let general = without_shared(alloc, term, &mut parts)?;
     if parts.is_empty() {
         return Err(Fault::BadShape);
     }
-    by_general(recorder, alloc, laws, &general, &parts)
+    by_general(recorder, laws, &general, &parts)
 }
 
 /// A tautology by its parts that stand in it several times, or else by its long chains of `<=>`, or where it has none, by a plan. A
 /// search whose answer is to be judged.
 #[tactic(auto, using(hol_taut_chains::proofs::ChainLemmas::continued_twice, crate::proofs::LawLemmas::still_lawful))]
-pub(crate) fn searched(
-    recorder: &mut Recorder,
-    alloc: Global,
-    laws: &Laws,
-    term: &Term,
-) -> Result<Rec, Fault>
+pub(crate) fn searched(recorder: &mut Recorder, laws: &Laws, term: &Term) -> Result<Rec, Fault>
     requires laws { HasLaws recorder.old laws.now }
     ensures continues { Continues recorder.old recorder.new result }
 {
-    match by_shared(recorder, alloc, laws, term) {
+    match by_shared(recorder, laws, term) {
         Ok(made) => Ok(made),
         Err(Fault::Memory) => Err(Fault::Memory),
         Err(_) => {
             if has_long_chain(term) {
-                shortened(recorder, alloc, laws, term)
+                shortened(recorder, laws, term)
             } else {
-                by_planned_steps(recorder, alloc, laws, term)
+                by_planned_steps(recorder, laws, term)
             }
         }
     }

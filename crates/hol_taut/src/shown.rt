@@ -20,13 +20,11 @@ use hol_model::Fault;
 use hol_taut_formulas::{Form, form_of};
 use hol_taut_laws::Laws;
 use hol_terms::Term;
-use std::alloc::Global;
 
 /// A formula that the facts make true, or its equation with `F`, where they make it false.
 #[tactic(none)]
 pub(crate) fn shown(
     recorder: &mut Recorder,
-    alloc: Global,
     laws: &Laws,
     term: &Term,
     value: bool,
@@ -40,25 +38,25 @@ pub(crate) fn shown(
     ensures shows { ShowsFact facts.now term.now value result }
 {
     match form_of(term) {
-        Form::Atom => from_fact(recorder, alloc, term, &*facts),
-        Form::Constantly(_) => constantly(recorder, alloc, laws, value),
+        Form::Atom => from_fact(recorder, term, &*facts),
+        Form::Constantly(_) => constantly(recorder, laws, value),
         Form::Negated(part) => {
-            let opposite = shown(recorder, alloc, laws, part, !value, &*facts)?;
-            denial(recorder, alloc, laws, part, value, &opposite)
+            let opposite = shown(recorder, laws, part, !value, &*facts)?;
+            denial(recorder, laws, part, value, &opposite)
         }
         Form::Connected(connective, left, right) => {
             let left_value = known_value(left, &*facts);
             let right_value = known_value(right, &*facts);
             let way = way_to(connective, value, left_value, right_value);
             let side = first_side(way, left, right);
-            let premise = shown(recorder, alloc, laws, side, first_value(way), &*facts)?;
-            let first = by_first(recorder, alloc, laws, law_of(way), left, right, premise)?;
+            let premise = shown(recorder, laws, side, first_value(way), &*facts)?;
+            let first = by_first(recorder, laws, law_of(way), left, right, premise)?;
             if !takes_second(way) {
                 return Ok(first);
             }
             let other = second_side(way, left, right);
-            let second = shown(recorder, alloc, laws, other, second_value(way), &*facts)?;
-            with_second(recorder, alloc, way, &first, &second)
+            let second = shown(recorder, laws, other, second_value(way), &*facts)?;
+            with_second(recorder, way, &first, &second)
         }
     }
 }

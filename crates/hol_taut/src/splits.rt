@@ -19,13 +19,11 @@ use hol_journal::{Rec, Recorder};
 use hol_model::Fault;
 use hol_taut_laws::{Law, Laws};
 use hol_terms::Term;
-use std::alloc::Global;
 
 /// A tautology by splits, from its denial, which is handed in.
 #[tactic(none)]
 pub(crate) fn split(
     recorder: &mut Recorder,
-    alloc: Global,
     laws: &Laws,
     term: &Term,
     denied: &Denied,
@@ -35,20 +33,18 @@ pub(crate) fn split(
     ensures continues { Continues recorder.old recorder.new result }
     ensures proves { (room : Room) → IsSmallIf room (image term.now) → ProvesIf room result [] (image term.now) }
 {
-    let assumed = assume(recorder, alloc, &denied.denial)?;
+    let assumed = assume(recorder, &denied.denial)?;
     let absurd = refuted(
         recorder,
-        alloc,
         laws,
         term,
         &assumed,
         &denied.atoms,
         &Facts::Nothing,
     )?;
-    let denied_denial = denied_by(recorder, alloc, laws, &denied.denial, &absurd)?;
+    let denied_denial = denied_by(recorder, laws, &denied.denial, &absurd)?;
     by_one(
         recorder,
-        alloc,
         laws,
         Law::NotFalseElim,
         term,
@@ -59,33 +55,23 @@ pub(crate) fn split(
 
 // A formula by splits, where it is a tautology.
 #[tactic(none)]
-fn by_own_splits(
-    recorder: &mut Recorder,
-    alloc: Global,
-    laws: &Laws,
-    term: &Term,
-) -> Result<Rec, Fault>
+fn by_own_splits(recorder: &mut Recorder, laws: &Laws, term: &Term) -> Result<Rec, Fault>
     requires laws { HasLaws recorder.old laws.now }
     ensures continues { Continues recorder.old recorder.new result }
 {
-    let denied = deny(recorder, alloc, laws, term)?;
-    split(recorder, alloc, laws, term, &denied)
+    let denied = deny(recorder, laws, term)?;
+    split(recorder, laws, term, &denied)
 }
 
 /// A formula by a plan, or else by splits, where it is a tautology: what a longer proof takes on its way.
 #[tactic(auto, using(hol_taut_chains::proofs::ChainLemmas::continued_twice, crate::proofs::LawLemmas::still_lawful))]
-pub(crate) fn by_splits(
-    recorder: &mut Recorder,
-    alloc: Global,
-    laws: &Laws,
-    term: &Term,
-) -> Result<Rec, Fault>
+pub(crate) fn by_splits(recorder: &mut Recorder, laws: &Laws, term: &Term) -> Result<Rec, Fault>
     requires laws { HasLaws recorder.old laws.now }
     ensures continues { Continues recorder.old recorder.new result }
 {
-    match by_planned_steps(recorder, alloc, laws, term) {
+    match by_planned_steps(recorder, laws, term) {
         Ok(made) => Ok(made),
         Err(Fault::Memory) => Err(Fault::Memory),
-        Err(_) => by_own_splits(recorder, alloc, laws, term),
+        Err(_) => by_own_splits(recorder, laws, term),
     }
 }

@@ -18,12 +18,10 @@ use hol_journal::{Rec, Recorder};
 use hol_model::Fault;
 use hol_taut_laws::{Law, Laws, law_theorem};
 use hol_terms::Term;
-use std::alloc::Global;
 
 /// From the hypothesis of a law at two formulas, its conclusion there.
 pub(crate) fn by_one(
     recorder: &mut Recorder,
-    alloc: Global,
     laws: &Laws,
     law: Law,
     p: &Term,
@@ -35,14 +33,14 @@ pub(crate) fn by_one(
     ensures continues { Continues recorder.old recorder.new result }
     ensures proves { LawProves recorder.old.theory law p.now q.now premise.now.theorem result }
 {
+    let alloc = recorder.alloc();
     let terms = for_p_q(alloc, p, q)?;
-    by_law(recorder, alloc, laws, law, &terms, premise)
+    by_law(recorder, laws, law, &terms, premise)
 }
 
 // From the hypothesis of a law at these terms, its conclusion there, in four steps.
 fn by_law(
     recorder: &mut Recorder,
-    alloc: Global,
     laws: &Laws,
     law: Law,
     terms: &[(Term, Term)],
@@ -54,50 +52,35 @@ fn by_law(
     ensures derives { LawDerives recorder.old.theory law terms.now premise.now.theorem result }
 {
     let lemma = law_theorem(recorder, laws, law);
-    by_lemma(recorder, alloc, &[], terms, lemma, premise)
+    by_lemma(recorder, &[], terms, lemma, premise)
 }
 
 /// EQ_MP, of theorems with allowed hypotheses.
-pub(crate) fn by_equation(
-    recorder: &mut Recorder,
-    alloc: Global,
-    first: &Rec,
-    second: &Rec,
-) -> Result<Rec, Fault>
+pub(crate) fn by_equation(recorder: &mut Recorder, first: &Rec, second: &Rec) -> Result<Rec, Fault>
     requires first { IsMade recorder.old first.now }
     requires second { IsMade recorder.old second.now }
     ensures continues { Continues recorder.old recorder.new result }
     ensures proves { EquationProves first.now.theorem second.now.theorem result }
 {
-    eq_mp(recorder, alloc, first, second)
+    eq_mp(recorder, first, second)
 }
 
 /// TRANS, of theorems with allowed hypotheses.
-pub(crate) fn by_chain(
-    recorder: &mut Recorder,
-    alloc: Global,
-    first: &Rec,
-    second: &Rec,
-) -> Result<Rec, Fault>
+pub(crate) fn by_chain(recorder: &mut Recorder, first: &Rec, second: &Rec) -> Result<Rec, Fault>
     requires first { IsMade recorder.old first.now }
     requires second { IsMade recorder.old second.now }
     ensures continues { Continues recorder.old recorder.new result }
     ensures proves { ChainProves first.now.theorem second.now.theorem result }
 {
-    trans(recorder, alloc, first, second)
+    trans(recorder, first, second)
 }
 
 /// The equation of the conclusions: a hypothesis that is the other conclusion need not be allowed.
-pub(crate) fn by_both(
-    recorder: &mut Recorder,
-    alloc: Global,
-    first: &Rec,
-    second: &Rec,
-) -> Result<Rec, Fault>
+pub(crate) fn by_both(recorder: &mut Recorder, first: &Rec, second: &Rec) -> Result<Rec, Fault>
     requires first { IsMade recorder.old first.now }
     requires second { IsMade recorder.old second.now }
     ensures continues { Continues recorder.old recorder.new result }
     ensures proves { BothProve first.now.theorem second.now.theorem result }
 {
-    deduct_antisym(recorder, alloc, first, second)
+    deduct_antisym(recorder, first, second)
 }

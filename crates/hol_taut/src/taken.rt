@@ -19,7 +19,6 @@ use hol_journal::{Rec, Recorder};
 use hol_model::Fault;
 use hol_taut_laws::{Law, Laws};
 use hol_terms::Term;
-use std::alloc::Global;
 
 /// The side that a way goes from.
 pub(crate) fn first_side<'a>(way: Way, left: &'a Term, right: &'a Term) -> &'a Term
@@ -97,7 +96,6 @@ pub(crate) fn second_value(way: Way) -> bool
 /// What the law of a way gives from the fact of its first side.
 pub(crate) fn by_first(
     recorder: &mut Recorder,
-    alloc: Global,
     laws: &Laws,
     law: Option<Law>,
     left: &Term,
@@ -110,7 +108,7 @@ pub(crate) fn by_first(
     ensures proves { FirstProves recorder.old.theory law left.now right.now premise.theorem result }
 {
     match law {
-        Some(law) => by_one(recorder, alloc, laws, law, left, right, &premise),
+        Some(law) => by_one(recorder, laws, law, left, right, &premise),
         None => Ok(premise),
     }
 }
@@ -118,7 +116,6 @@ pub(crate) fn by_first(
 /// What the fact of a way's second side makes of what its law gave.
 pub(crate) fn with_second(
     recorder: &mut Recorder,
-    alloc: Global,
     way: Way,
     first: &Rec,
     second: &Rec,
@@ -130,10 +127,10 @@ pub(crate) fn with_second(
     ensures proves { SecondProves way first.now.theorem second.now.theorem result }
 {
     match way {
-        Way::Equation(_, _, _) => by_equation(recorder, alloc, first, second),
-        Way::Chain(_, _) => by_chain(recorder, alloc, first, second),
-        Way::ChainFromRight(_) => by_chain(recorder, alloc, first, second),
-        Way::Same => by_both(recorder, alloc, first, second),
+        Way::Equation(_, _, _) => by_equation(recorder, first, second),
+        Way::Chain(_, _) => by_chain(recorder, first, second),
+        Way::ChainFromRight(_) => by_chain(recorder, first, second),
+        Way::Same => by_both(recorder, first, second),
         _ => unreachable!(),
     }
 }
@@ -141,7 +138,6 @@ pub(crate) fn with_second(
 /// The fact of a negation from that of its part.
 pub(crate) fn denial(
     recorder: &mut Recorder,
-    alloc: Global,
     laws: &Laws,
     part: &Term,
     value: bool,
@@ -154,5 +150,5 @@ pub(crate) fn denial(
     ensures proves { NegationProves part.now value premise.now.theorem result }
 {
     let law = if value { Law::NotFalse } else { Law::NotTrue };
-    by_one(recorder, alloc, laws, law, part, part, premise)
+    by_one(recorder, laws, law, part, part, premise)
 }

@@ -20,26 +20,19 @@ use hol_journal::{Rec, Recorder};
 use hol_model::Fault;
 use hol_taut_laws::Laws;
 use hol_terms::Term;
-use std::alloc::Global;
 
 // A tautology, from its denial, which is handed in: by the search for its theorem, if that gives it, and else by splits.
-fn proved(
-    recorder: &mut Recorder,
-    alloc: Global,
-    laws: &Laws,
-    term: &Term,
-    denied: &Denied,
-) -> Result<Rec, Fault>
+fn proved(recorder: &mut Recorder, laws: &Laws, term: &Term, denied: &Denied) -> Result<Rec, Fault>
     requires laws { HasLaws recorder.old laws.now }
     requires denied { IsDenied recorder.old.theory term.now denied.now }
     ensures continues { Continues recorder.old recorder.new result }
     ensures proves { (room : Room) → IsSmallIf room (image term.now) → ProvesIf room result [] (image term.now) }
 {
-    let tried = searched(recorder, alloc, laws, term);
+    let tried = searched(recorder, laws, term);
     if let Some(answer) = judged(recorder, tried, term) {
         return answer;
     }
-    split(recorder, alloc, laws, term, denied)
+    split(recorder, laws, term, denied)
 }
 
 /// TAUT: a formula that is true in each row of values of its atoms. Refused where the term is not of type `bool`, where
@@ -53,12 +46,12 @@ fn proved(
 /// one before the same backwards. A part that stands at several places is taken for an atom, where the formula holds whatever it
 /// is.
 #[tactic(none)]
-pub fn taut(recorder: &mut Recorder, alloc: Global, laws: &Laws, term: &Term) -> Result<Rec, Fault>
+pub fn taut(recorder: &mut Recorder, laws: &Laws, term: &Term) -> Result<Rec, Fault>
     requires laws { HasLaws recorder.old laws.now }
     ensures continues { Continues recorder.old recorder.new result }
     ensures outcome { AnswersSmall (theorem_in result) (image term.now) (tautology_outcome recorder.old.theory term.now) }
 {
-    let denied = deny(recorder, alloc, laws, term)?;
-    let made = proved(recorder, alloc, laws, term, &denied)?;
-    named_same(recorder, alloc, term, &made)
+    let denied = deny(recorder, laws, term)?;
+    let made = proved(recorder, laws, term, &denied)?;
+    named_same(recorder, term, &made)
 }

@@ -8,74 +8,53 @@ use hol_equal::trans;
 use hol_journal::{Rec, Recorder};
 use hol_model::Fault;
 use hol_terms::Term;
-use std::alloc::Global;
 
 /// REFL.
-pub fn reflexive(recorder: &mut Recorder, alloc: Global, term: &Term) -> Result<Rec, Fault>
+pub fn reflexive(recorder: &mut Recorder, term: &Term) -> Result<Rec, Fault>
     ensures continues { Continues recorder.old recorder.new result }
 {
-    recorder.refl(alloc, term)
+    recorder.refl(term)
 }
 
 /// MK_COMB.
-pub(crate) fn applied(
-    recorder: &mut Recorder,
-    alloc: Global,
-    first: &Rec,
-    second: &Rec,
-) -> Result<Rec, Fault>
+pub(crate) fn applied(recorder: &mut Recorder, first: &Rec, second: &Rec) -> Result<Rec, Fault>
     requires first { IsMade recorder.old first.now }
     requires second { IsMade recorder.old second.now }
     ensures continues { Continues recorder.old recorder.new result }
 {
-    recorder.mk_comb(alloc, first, second)
+    recorder.mk_comb(first, second)
 }
 
 /// INST.
-pub fn instance(
-    recorder: &mut Recorder,
-    alloc: Global,
-    terms: &[(Term, Term)],
-    law: &Rec,
-) -> Result<Rec, Fault>
+pub fn instance(recorder: &mut Recorder, terms: &[(Term, Term)], law: &Rec) -> Result<Rec, Fault>
     requires { IsMade recorder.old law.now }
     ensures continues { Continues recorder.old recorder.new result }
 {
-    recorder.inst(alloc, terms, law)
+    recorder.inst(terms, law)
 }
 
 /// AP_TERM.
-pub(crate) fn under(
-    recorder: &mut Recorder,
-    alloc: Global,
-    function: &Term,
-    premise: &Rec,
-) -> Result<Rec, Fault>
+pub(crate) fn under(recorder: &mut Recorder, function: &Term, premise: &Rec) -> Result<Rec, Fault>
     requires { IsMade recorder.old premise.now }
     ensures continues { Continues recorder.old recorder.new result }
 {
-    let same = reflexive(recorder, alloc, function)?;
-    applied(recorder, alloc, &same, premise)
+    let same = reflexive(recorder, function)?;
+    applied(recorder, &same, premise)
 }
 
 /// From `p <=> q`, `(left <=> p) <=> (left <=> q)`.
-pub(crate) fn beside(
-    recorder: &mut Recorder,
-    alloc: Global,
-    left: &Term,
-    premise: &Rec,
-) -> Result<Rec, Fault>
+pub(crate) fn beside(recorder: &mut Recorder, left: &Term, premise: &Rec) -> Result<Rec, Fault>
     requires { IsMade recorder.old premise.now }
     ensures continues { Continues recorder.old recorder.new result }
 {
+    let alloc = recorder.alloc();
     let function = equal_to(alloc, left)?;
-    under(recorder, alloc, &function, premise)
+    under(recorder, &function, premise)
 }
 
 /// TRANS, where the second theorem was made.
 pub(crate) fn followed(
     recorder: &mut Recorder,
-    alloc: Global,
     first: Rec,
     second: Result<Rec, Fault>,
 ) -> Result<Rec, Fault>
@@ -84,7 +63,7 @@ pub(crate) fn followed(
     ensures continues { Continues recorder.old recorder.new result }
 {
     match second {
-        Ok(second) => trans(recorder, alloc, &first, &second),
+        Ok(second) => trans(recorder, &first, &second),
         Err(fault) => Err(fault),
     }
 }

@@ -13,7 +13,6 @@ use hol_journal::{Rec, Recorder};
 use hol_model::Fault;
 use hol_taut_formulas::{Form, form_of};
 use hol_terms::Term;
-use std::alloc::Global;
 
 /// The laws by which negations are taken out of chains.
 #[derive(Drop)]
@@ -83,12 +82,7 @@ fn right_of(equation: &Term) -> Option<&Term> {
 
 // From `formula <=> other`, an equation with what a law makes of the other; one to which no law applies stays.
 #[tactic(auto, using(hol_equal::proofs::StepLemmas::still_made, crate::proofs::ChainLemmas::continued_twice))]
-fn rewritten(
-    recorder: &mut Recorder,
-    alloc: Global,
-    laws: &NegationLaws,
-    equation: Rec,
-) -> Result<Rec, Fault>
+fn rewritten(recorder: &mut Recorder, laws: &NegationLaws, equation: Rec) -> Result<Rec, Fault>
     requires laws { HasNegationLaws recorder.old laws.now }
     requires equation { IsHeld recorder.old equation }
     ensures continues { Continues recorder.old recorder.new result }
@@ -99,8 +93,8 @@ fn rewritten(
     let Some((law, p, q)) = law_for(recorder, laws, right) else {
         return Ok(equation);
     };
-    let next = law_at(recorder, alloc, law, p, q, q);
-    followed(recorder, alloc, equation, next)
+    let next = law_at(recorder, law, p, q, q);
+    followed(recorder, equation, next)
 }
 
 // What is negated in the right side of an equation, with that side.
@@ -113,7 +107,6 @@ fn negated_behind(equation: &Term) -> Option<(&Term, &Term)> {
 #[tactic(auto, using(hol_equal::proofs::StepLemmas::still_made, crate::proofs::ChainLemmas::continued_twice))]
 fn rewritten_beneath(
     recorder: &mut Recorder,
-    alloc: Global,
     laws: &NegationLaws,
     equation: Rec,
 ) -> Result<Rec, Fault>
@@ -127,33 +120,27 @@ fn rewritten_beneath(
     let Some((law, p, q)) = law_for(recorder, laws, part) else {
         return Ok(equation);
     };
-    let law = law_at(recorder, alloc, law, p, q, q);
-    let next = beneath(recorder, alloc, right, law);
-    followed(recorder, alloc, equation, next)
+    let law = law_at(recorder, law, p, q, q);
+    let next = beneath(recorder, right, law);
+    followed(recorder, equation, next)
 }
 
 // From `formula <=> other`, where at most the sides of the other are negated, and once, an equation where none is.
 #[tactic(auto, using(crate::proofs::ChainLemmas::continued_twice))]
-fn pulled_out(
-    recorder: &mut Recorder,
-    alloc: Global,
-    laws: &NegationLaws,
-    equation: Rec,
-) -> Result<Rec, Fault>
+fn pulled_out(recorder: &mut Recorder, laws: &NegationLaws, equation: Rec) -> Result<Rec, Fault>
     requires laws { HasNegationLaws recorder.old laws.now }
     requires equation { IsHeld recorder.old equation }
     ensures continues { Continues recorder.old recorder.new result }
 {
-    let first = rewritten(recorder, alloc, laws, equation)?;
-    let second = rewritten_beneath(recorder, alloc, laws, first)?;
-    rewritten(recorder, alloc, laws, second)
+    let first = rewritten(recorder, laws, equation)?;
+    let second = rewritten_beneath(recorder, laws, first)?;
+    rewritten(recorder, laws, second)
 }
 
 // The equation of a connective's formula, from those of its sides.
 #[tactic(auto, using(crate::proofs::ChainLemmas::continued_twice))]
 fn connected(
     recorder: &mut Recorder,
-    alloc: Global,
     laws: &NegationLaws,
     term: &Term,
     left: &Rec,
@@ -164,8 +151,8 @@ fn connected(
     requires right { IfOk right (IsHeld recorder.old) }
     ensures continues { Continues recorder.old recorder.new result }
 {
-    match joined(recorder, alloc, term, left, right) {
-        Ok(whole) => pulled_out(recorder, alloc, laws, whole),
+    match joined(recorder, term, left, right) {
+        Ok(whole) => pulled_out(recorder, laws, whole),
         Err(fault) => Err(fault),
     }
 }
@@ -174,7 +161,6 @@ fn connected(
 #[tactic(auto, using(crate::proofs::ChainLemmas::continued_twice))]
 fn denied(
     recorder: &mut Recorder,
-    alloc: Global,
     laws: &NegationLaws,
     term: &Term,
     part: Result<Rec, Fault>,
@@ -183,8 +169,8 @@ fn denied(
     requires part { IfOk part (IsHeld recorder.old) }
     ensures continues { Continues recorder.old recorder.new result }
 {
-    match beneath(recorder, alloc, term, part) {
-        Ok(whole) => rewritten(recorder, alloc, laws, whole),
+    match beneath(recorder, term, part) {
+        Ok(whole) => rewritten(recorder, laws, whole),
         Err(fault) => Err(fault),
     }
 }
@@ -193,7 +179,6 @@ fn denied(
 #[tactic(auto, using(hol_equal::proofs::StepLemmas::still_made, crate::proofs::ChainLemmas::continued_twice))]
 pub fn without_negations(
     recorder: &mut Recorder,
-    alloc: Global,
     laws: &NegationLaws,
     term: &Term,
 ) -> Result<Rec, Fault>
@@ -202,14 +187,14 @@ pub fn without_negations(
 {
     match form_of(term) {
         Form::Negated(part) => {
-            let part = without_negations(recorder, alloc, laws, part);
-            denied(recorder, alloc, laws, term, part)
+            let part = without_negations(recorder, laws, part);
+            denied(recorder, laws, term, part)
         }
         Form::Connected(_, left, right) => {
-            let left = without_negations(recorder, alloc, laws, left)?;
-            let right = without_negations(recorder, alloc, laws, right);
-            connected(recorder, alloc, laws, term, &left, right)
+            let left = without_negations(recorder, laws, left)?;
+            let right = without_negations(recorder, laws, right);
+            connected(recorder, laws, term, &left, right)
         }
-        _ => reflexive(recorder, alloc, term),
+        _ => reflexive(recorder, term),
     }
 }

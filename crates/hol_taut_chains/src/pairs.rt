@@ -11,15 +11,9 @@ use hol_equal::{conclusion_of, trans};
 use hol_journal::{Rec, Recorder};
 use hol_model::Fault;
 use hol_terms::Term;
-use std::alloc::Global;
 
 // From `chain <=> part <=> rest`, `rest <=> part <=> shorter`.
-fn pulled_again(
-    recorder: &mut Recorder,
-    alloc: Global,
-    laws: &ChainLaws,
-    first: &Rec,
-) -> Result<Rec, Fault>
+fn pulled_again(recorder: &mut Recorder, laws: &ChainLaws, first: &Rec) -> Result<Rec, Fault>
     requires laws { HasChainLaws recorder.old laws.now }
     requires first { IsMade recorder.old first.now }
     ensures continues { Continues recorder.old recorder.new result }
@@ -27,14 +21,13 @@ fn pulled_again(
     let Some((part, rest)) = front_and_rest(conclusion_of(recorder, first)) else {
         return Err(Fault::BadShape);
     };
-    pulled(recorder, alloc, laws, part, rest)
+    pulled(recorder, laws, part, rest)
 }
 
 // `chain <=> shorter`, where the part stands at two places of the chain.
 #[tactic(auto, using(crate::proofs::ChainLemmas::in_a_row))]
 fn without_pair(
     recorder: &mut Recorder,
-    alloc: Global,
     laws: &ChainLaws,
     part: &Term,
     chain: &Term,
@@ -42,10 +35,10 @@ fn without_pair(
     requires laws { HasChainLaws recorder.old laws.now }
     ensures continues { Continues recorder.old recorder.new result }
 {
-    let first = pulled(recorder, alloc, laws, part, chain)?;
-    let second = pulled_again(recorder, alloc, laws, &first)?;
-    let shorter = carried(recorder, alloc, &laws.paired, part, &second)?;
-    trans(recorder, alloc, &first, &shorter)
+    let first = pulled(recorder, laws, part, chain)?;
+    let second = pulled_again(recorder, laws, &first)?;
+    let shorter = carried(recorder, &laws.paired, part, &second)?;
+    trans(recorder, &first, &shorter)
 }
 
 /// The side of an equivalence between formulas that are equal up to the names of bound variables.
@@ -76,7 +69,6 @@ fn next_pair<'a>(recorder: &Recorder, shorter: &'a Rec) -> Option<(&'a Term, &'a
 #[tactic(auto, using(crate::proofs::ChainLemmas::in_a_row))]
 pub(crate) fn without_pairs(
     recorder: &mut Recorder,
-    alloc: Global,
     laws: &ChainLaws,
     part: &Term,
     chain: &Term,
@@ -85,13 +77,13 @@ pub(crate) fn without_pairs(
     requires laws { HasChainLaws recorder.old laws.now }
     ensures continues { Continues recorder.old recorder.new result }
 {
-    let shorter = without_pair(recorder, alloc, laws, part, chain)?;
+    let shorter = without_pair(recorder, laws, part, chain)?;
     if more == 0 {
         return Ok(shorter);
     }
     let Some((next, rest)) = next_pair(recorder, &shorter) else {
         return Ok(shorter);
     };
-    let shortest = without_pairs(recorder, alloc, laws, next, rest, more - 1);
-    followed(recorder, alloc, shorter, shortest)
+    let shortest = without_pairs(recorder, laws, next, rest, more - 1);
+    followed(recorder, shorter, shortest)
 }

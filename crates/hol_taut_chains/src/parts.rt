@@ -16,7 +16,6 @@ use hol_journal::{Rec, Recorder};
 use hol_model::Fault;
 use hol_taut_formulas::{Form, form_of};
 use hol_terms::Term;
-use std::alloc::Global;
 
 // The sides of a connective, where a chain stands in the left one.
 fn sides_with_chain(term: &Term) -> Option<(&Term, &Term)>
@@ -58,13 +57,7 @@ fn connective_of(term: &Term) -> Option<&Term> {
 
 // The equation of a connective's formula, from those of its sides.
 #[tactic(auto, using(hol_equal::proofs::StepLemmas::still_made, hol_equal::proofs::StepLemmas::now_made, crate::proofs::ChainLemmas::continued_twice))]
-fn joined_sides(
-    recorder: &mut Recorder,
-    alloc: Global,
-    term: &Term,
-    left: &Rec,
-    right: &Rec,
-) -> Result<Rec, Fault>
+fn joined_sides(recorder: &mut Recorder, term: &Term, left: &Rec, right: &Rec) -> Result<Rec, Fault>
     requires left { IsMade recorder.old left.now }
     requires right { IsMade recorder.old right.now }
     ensures continues { Continues recorder.old recorder.new result }
@@ -72,14 +65,13 @@ fn joined_sides(
     let Some(connective) = connective_of(term) else {
         return Err(Fault::BadShape);
     };
-    let first = under(recorder, alloc, connective, left)?;
-    applied(recorder, alloc, &first, right)
+    let first = under(recorder, connective, left)?;
+    applied(recorder, &first, right)
 }
 
 /// The same, where that of the right side was made.
 pub(crate) fn joined(
     recorder: &mut Recorder,
-    alloc: Global,
     term: &Term,
     left: &Rec,
     right: Result<Rec, Fault>,
@@ -89,13 +81,12 @@ pub(crate) fn joined(
     ensures continues { Continues recorder.old recorder.new result }
 {
     let right = right?;
-    joined_sides(recorder, alloc, term, left, &right)
+    joined_sides(recorder, term, left, &right)
 }
 
 /// The equation of a connective's formula, from that of its last part.
 pub(crate) fn beneath(
     recorder: &mut Recorder,
-    alloc: Global,
     term: &Term,
     part: Result<Rec, Fault>,
 ) -> Result<Rec, Fault>
@@ -104,7 +95,7 @@ pub(crate) fn beneath(
 {
     let part = part?;
     match function_of(term) {
-        Some(function) => under(recorder, alloc, function, &part),
+        Some(function) => under(recorder, function, &part),
         None => Err(Fault::BadShape),
     }
 }
@@ -117,22 +108,17 @@ fn same_side_behind(equation: &Term) -> Option<&Term> {
 
 // `(p <=> p) <=> T`.
 #[tactic(auto, using(hol_equal::proofs::StepLemmas::still_made, hol_equal::proofs::StepLemmas::now_made, crate::proofs::ChainLemmas::continued_twice))]
-fn truth_of(recorder: &mut Recorder, alloc: Global, truth: &Rec, side: &Term) -> Result<Rec, Fault>
+fn truth_of(recorder: &mut Recorder, truth: &Rec, side: &Term) -> Result<Rec, Fault>
     requires { IsMade recorder.old truth.now }
     ensures continues { Continues recorder.old recorder.new result }
 {
-    let same = reflexive(recorder, alloc, side)?;
-    deduct_antisym(recorder, alloc, &same, truth)
+    let same = reflexive(recorder, side)?;
+    deduct_antisym(recorder, &same, truth)
 }
 
 // From `chain <=> p <=> p`, `chain <=> T`; what else a chain is equal to stays.
 #[tactic(auto, using(hol_equal::proofs::StepLemmas::still_made, hol_equal::proofs::StepLemmas::now_made, crate::proofs::ChainLemmas::continued_twice))]
-fn with_truth(
-    recorder: &mut Recorder,
-    alloc: Global,
-    truth: &Rec,
-    normal: Rec,
-) -> Result<Rec, Fault>
+fn with_truth(recorder: &mut Recorder, truth: &Rec, normal: Rec) -> Result<Rec, Fault>
     requires truth { IsMade recorder.old truth.now }
     requires normal { IsHeld recorder.old normal }
     ensures continues { Continues recorder.old recorder.new result }
@@ -140,15 +126,14 @@ fn with_truth(
     let Some(side) = same_side_behind(conclusion_of(recorder, &normal)) else {
         return Ok(normal);
     };
-    let same = truth_of(recorder, alloc, truth, side);
-    followed(recorder, alloc, normal, same)
+    let same = truth_of(recorder, truth, side);
+    followed(recorder, normal, same)
 }
 
 // `chain <=> normal`, or `chain <=> T`.
 #[tactic(auto, using(hol_equal::proofs::StepLemmas::still_made, crate::proofs::ChainLemmas::continued_twice))]
 fn chain_equation(
     recorder: &mut Recorder,
-    alloc: Global,
     laws: &ChainLaws,
     whole: &Term,
     chain: &Term,
@@ -156,15 +141,14 @@ fn chain_equation(
     requires { HasChainLaws recorder.old laws.now }
     ensures continues { Continues recorder.old recorder.new result }
 {
-    let normal = normal_chain(recorder, alloc, laws, whole, chain)?;
-    with_truth(recorder, alloc, &laws.truth, normal)
+    let normal = normal_chain(recorder, laws, whole, chain)?;
+    with_truth(recorder, &laws.truth, normal)
 }
 
 /// `formula <=> normal`, by the equations of the chains that stand in the formula.
 #[tactic(auto, using(hol_equal::proofs::StepLemmas::still_made, crate::proofs::ChainLemmas::continued_twice, crate::proofs::ChainLemmas::still_chain_laws))]
 pub fn normal_form(
     recorder: &mut Recorder,
-    alloc: Global,
     laws: &ChainLaws,
     whole: &Term,
     term: &Term,
@@ -173,19 +157,19 @@ pub fn normal_form(
     ensures continues { Continues recorder.old recorder.new result }
 {
     if is_chain(term) {
-        return chain_equation(recorder, alloc, laws, whole, term);
+        return chain_equation(recorder, laws, whole, term);
     }
     if !has_chain(term) {
-        return reflexive(recorder, alloc, term);
+        return reflexive(recorder, term);
     }
     if let Some((left, right)) = sides_with_chain(term) {
-        let left = normal_form(recorder, alloc, laws, whole, left)?;
-        let right = normal_form(recorder, alloc, laws, whole, right);
-        return joined(recorder, alloc, term, &left, right);
+        let left = normal_form(recorder, laws, whole, left)?;
+        let right = normal_form(recorder, laws, whole, right);
+        return joined(recorder, term, &left, right);
     }
     let Some(last) = last_part(term) else {
         return Err(Fault::BadShape);
     };
-    let last = normal_form(recorder, alloc, laws, whole, last);
-    beneath(recorder, alloc, term, last)
+    let last = normal_form(recorder, laws, whole, last);
+    beneath(recorder, term, last)
 }

@@ -11,7 +11,6 @@ use hol_equal::conclusion_of;
 use hol_journal::{Rec, Recorder};
 use hol_model::Fault;
 use hol_terms::Term;
-use std::alloc::Global;
 
 /// The laws by which chains are shortened.
 #[derive(Drop)]
@@ -29,7 +28,6 @@ pub struct ChainLaws {
 /// A law at three formulas.
 pub(crate) fn law_at(
     recorder: &mut Recorder,
-    alloc: Global,
     law: &Rec,
     p: &Term,
     q: &Term,
@@ -38,8 +36,9 @@ pub(crate) fn law_at(
     requires { IsMade recorder.old law.now }
     ensures continues { Continues recorder.old recorder.new result }
 {
+    let alloc = recorder.alloc();
     let terms = for_p_q_r(alloc, p, q, r)?;
-    instance(recorder, alloc, &terms, law)
+    instance(recorder, &terms, law)
 }
 
 /// Of `chain <=> part <=> rest`, the part and the rest.
@@ -51,13 +50,7 @@ pub(crate) fn front_and_rest(equivalence: &Term) -> Option<(&Term, &Term)> {
 }
 
 // From `right <=> part <=> rest`, a law at `left`, `part` and `rest`.
-fn law_behind(
-    recorder: &mut Recorder,
-    alloc: Global,
-    law: &Rec,
-    left: &Term,
-    inner: &Rec,
-) -> Result<Rec, Fault>
+fn law_behind(recorder: &mut Recorder, law: &Rec, left: &Term, inner: &Rec) -> Result<Rec, Fault>
     requires law { IsMade recorder.old law.now }
     requires inner { IsMade recorder.old inner.now }
     ensures continues { Continues recorder.old recorder.new result }
@@ -65,14 +58,13 @@ fn law_behind(
     let Some((part, rest)) = front_and_rest(conclusion_of(recorder, inner)) else {
         return Err(Fault::BadShape);
     };
-    law_at(recorder, alloc, law, left, part, rest)
+    law_at(recorder, law, left, part, rest)
 }
 
 /// From `right <=> part <=> rest`, `(left <=> right) <=> other` by a law of `left <=> part <=> rest`.
 #[tactic(auto, using(crate::proofs::ChainLemmas::in_a_row))]
 pub(crate) fn carried(
     recorder: &mut Recorder,
-    alloc: Global,
     law: &Rec,
     left: &Term,
     inner: &Rec,
@@ -81,16 +73,15 @@ pub(crate) fn carried(
     requires inner { IsMade recorder.old inner.now }
     ensures continues { Continues recorder.old recorder.new result }
 {
-    let beside = beside(recorder, alloc, left, inner)?;
-    let next = law_behind(recorder, alloc, law, left, inner);
-    followed(recorder, alloc, beside, next)
+    let beside = beside(recorder, left, inner)?;
+    let next = law_behind(recorder, law, left, inner);
+    followed(recorder, beside, next)
 }
 
 // From `left <=> part <=> rest`, `(left <=> right) <=> (part <=> right <=> rest)`.
 #[tactic(auto, using(crate::proofs::ChainLemmas::in_a_row))]
 fn turned(
     recorder: &mut Recorder,
-    alloc: Global,
     laws: &ChainLaws,
     left: &Term,
     right: &Term,
@@ -100,16 +91,15 @@ fn turned(
     requires inner { IsMade recorder.old inner.now }
     ensures continues { Continues recorder.old recorder.new result }
 {
-    let turned = law_at(recorder, alloc, &laws.commuted, left, right, right)?;
-    let carried = carried(recorder, alloc, &laws.exchanged, right, inner);
-    followed(recorder, alloc, turned, carried)
+    let turned = law_at(recorder, &laws.commuted, left, right, right)?;
+    let carried = carried(recorder, &laws.exchanged, right, inner);
+    followed(recorder, turned, carried)
 }
 
 /// `chain <=> part <=> rest`, for a part of the chain.
 #[tactic(auto, using(crate::proofs::ChainLemmas::in_a_row))]
 pub(crate) fn pulled(
     recorder: &mut Recorder,
-    alloc: Global,
     laws: &ChainLaws,
     part: &Term,
     chain: &Term,
@@ -121,15 +111,15 @@ pub(crate) fn pulled(
         return Err(Fault::BadShape);
     };
     if aconv(part, left) {
-        return reflexive(recorder, alloc, chain);
+        return reflexive(recorder, chain);
     }
     if aconv(part, right) {
-        return law_at(recorder, alloc, &laws.commuted, left, right, right);
+        return law_at(recorder, &laws.commuted, left, right, right);
     }
     if is_part(part, right) {
-        let inner = pulled(recorder, alloc, laws, part, right)?;
-        return carried(recorder, alloc, &laws.exchanged, left, &inner);
+        let inner = pulled(recorder, laws, part, right)?;
+        return carried(recorder, &laws.exchanged, left, &inner);
     }
-    let inner = pulled(recorder, alloc, laws, part, left)?;
-    turned(recorder, alloc, laws, left, right, &inner)
+    let inner = pulled(recorder, laws, part, left)?;
+    turned(recorder, laws, left, right, &inner)
 }

@@ -11,7 +11,6 @@ use hol_equal::{conclusion_of, trans};
 use hol_journal::{Rec, Recorder};
 use hol_model::Fault;
 use hol_terms::Term;
-use std::alloc::Global;
 
 // How many parts are put in their order, or taken out by pairs.
 const MOST_PARTS: usize = 128;
@@ -19,7 +18,6 @@ const MOST_PARTS: usize = 128;
 // `chain <=> part <=> rest`, for the part that stands first in the whole.
 fn first_pulled(
     recorder: &mut Recorder,
-    alloc: Global,
     laws: &ChainLaws,
     whole: &Term,
     chain: &Term,
@@ -28,26 +26,20 @@ fn first_pulled(
     ensures continues { Continues recorder.old recorder.new result }
 {
     match first_part(whole, chain) {
-        Some(part) => pulled(recorder, alloc, laws, part, chain),
+        Some(part) => pulled(recorder, laws, part, chain),
         None => Err(Fault::BadShape),
     }
 }
 
 // From `chain <=> part <=> rest` and `rest <=> sorted`, `chain <=> part <=> sorted`.
 #[tactic(auto, using(hol_equal::proofs::StepLemmas::still_made, hol_equal::proofs::StepLemmas::now_made, crate::proofs::ChainLemmas::continued_twice))]
-fn with_sorted(
-    recorder: &mut Recorder,
-    alloc: Global,
-    part: &Term,
-    first: &Rec,
-    inner: &Rec,
-) -> Result<Rec, Fault>
+fn with_sorted(recorder: &mut Recorder, part: &Term, first: &Rec, inner: &Rec) -> Result<Rec, Fault>
     requires first { IsMade recorder.old first.now }
     requires inner { IsMade recorder.old inner.now }
     ensures continues { Continues recorder.old recorder.new result }
 {
-    let beside = beside(recorder, alloc, part, inner)?;
-    trans(recorder, alloc, first, &beside)
+    let beside = beside(recorder, part, inner)?;
+    trans(recorder, first, &beside)
 }
 
 // Whether its parts are in their order, or it has equal sides.
@@ -59,7 +51,6 @@ fn is_normal(whole: &Term, chain: &Term) -> bool {
 #[tactic(auto, using(crate::proofs::ChainLemmas::in_a_row))]
 fn sorted(
     recorder: &mut Recorder,
-    alloc: Global,
     laws: &ChainLaws,
     whole: &Term,
     chain: &Term,
@@ -69,24 +60,23 @@ fn sorted(
     ensures continues { Continues recorder.old recorder.new result }
 {
     if is_normal(whole, chain) {
-        return reflexive(recorder, alloc, chain);
+        return reflexive(recorder, chain);
     }
     if most == 0 {
         return Err(Fault::BadShape);
     }
-    let first = first_pulled(recorder, alloc, laws, whole, chain)?;
+    let first = first_pulled(recorder, laws, whole, chain)?;
     let Some((part, rest)) = front_and_rest(conclusion_of(recorder, &first)) else {
         return Err(Fault::BadShape);
     };
-    let inner = sorted(recorder, alloc, laws, whole, rest, most - 1)?;
-    with_sorted(recorder, alloc, part, &first, &inner)
+    let inner = sorted(recorder, laws, whole, rest, most - 1)?;
+    with_sorted(recorder, part, &first, &inner)
 }
 
 // From `chain <=> shortest`, `chain <=> sorted`.
 #[tactic(auto, using(crate::proofs::ChainLemmas::in_a_row))]
 fn sorted_behind(
     recorder: &mut Recorder,
-    alloc: Global,
     laws: &ChainLaws,
     whole: &Term,
     shortest: &Rec,
@@ -98,15 +88,14 @@ fn sorted_behind(
     let Some((_, chain)) = sides_of(conclusion_of(recorder, shortest)) else {
         return Err(Fault::BadShape);
     };
-    let sorted = sorted(recorder, alloc, laws, whole, chain, MOST_PARTS)?;
-    trans(recorder, alloc, shortest, &sorted)
+    let sorted = sorted(recorder, laws, whole, chain, MOST_PARTS)?;
+    trans(recorder, shortest, &sorted)
 }
 
 /// `chain <=> normal`: without the pairs of its parts, and those that are left in the order of the whole.
 #[tactic(auto, using(crate::proofs::ChainLemmas::in_a_row))]
 pub(crate) fn normal_chain(
     recorder: &mut Recorder,
-    alloc: Global,
     laws: &ChainLaws,
     whole: &Term,
     chain: &Term,
@@ -115,8 +104,8 @@ pub(crate) fn normal_chain(
     ensures continues { Continues recorder.old recorder.new result }
 {
     let Some(part) = twofold(chain, chain) else {
-        return sorted(recorder, alloc, laws, whole, chain, MOST_PARTS);
+        return sorted(recorder, laws, whole, chain, MOST_PARTS);
     };
-    let shortest = without_pairs(recorder, alloc, laws, part, chain, MOST_PARTS)?;
-    sorted_behind(recorder, alloc, laws, whole, &shortest)
+    let shortest = without_pairs(recorder, laws, part, chain, MOST_PARTS)?;
+    sorted_behind(recorder, laws, whole, &shortest)
 }

@@ -47,93 +47,91 @@ fn behind_laws(stored: &[Rec]) -> &[Rec]
 }
 
 // The first theorems of the prelude, and the laws of `T` and `==>` behind them.
-fn with_truth(recorder: &mut Recorder, alloc: Global, logic: &Bool) -> Result<Vec<Rec>, Fault>
+fn with_truth(recorder: &mut Recorder, logic: &Bool) -> Result<Vec<Rec>, Fault>
     requires logic { HasLogic recorder.old logic.now }
     requires theory { recorder.old.theory ≡ logical_definitions }
     ensures outcome { MakesTheorems (first_theorems ++ take 4 laws) recorder.new.theory result }
     ensures made { IfOk result (λ all. AreMade recorder.new all.items) }
     ensures grown { IsGrown recorder.old recorder.new }
 {
+    let alloc = recorder.alloc();
     let stored = logic.theorems();
     let before = before_laws(stored);
     let earlier = with_copies(alloc, Vec::new(alloc), before)?;
-    make_table(recorder, alloc, earlier, &TRUTH_LAWS)
+    make_table(recorder, earlier, &TRUTH_LAWS)
 }
 
 // What derivations of the laws cite of the prelude.
-fn cited(recorder: &mut Recorder, alloc: Global, logic: &Bool) -> Result<Vec<Rec>, Fault>
+fn cited(recorder: &mut Recorder, logic: &Bool) -> Result<Vec<Rec>, Fault>
     requires logic { HasLogic recorder.old logic.now }
     requires theory { recorder.old.theory ≡ logical_definitions }
     ensures outcome { MakesTheorems cited_theorems recorder.new.theory result }
     ensures made { IfOk result (λ all. AreMade recorder.new all.items) }
     ensures grown { IsGrown recorder.old recorder.new }
 {
+    let alloc = recorder.alloc();
     let stored = logic.theorems();
     let behind = behind_laws(stored);
-    let earlier = with_truth(recorder, alloc, logic)?;
+    let earlier = with_truth(recorder, logic)?;
     with_copies(alloc, earlier, behind)
 }
 
 // The same, and what is discharged.
-fn with_discharged(recorder: &mut Recorder, alloc: Global, logic: &Bool) -> Result<Vec<Rec>, Fault>
+fn with_discharged(recorder: &mut Recorder, logic: &Bool) -> Result<Vec<Rec>, Fault>
     requires logic { HasLogic recorder.old logic.now }
     requires theory { recorder.old.theory ≡ logical_definitions }
     ensures outcome { MakesTheorems (cited_theorems ++ discharged_laws) recorder.new.theory result }
     ensures made { IfOk result (λ all. AreMade recorder.new all.items) }
     ensures grown { IsGrown recorder.old recorder.new }
 {
-    let earlier = cited(recorder, alloc, logic)?;
-    make_table(recorder, alloc, earlier, &DISCHARGED)
+    let earlier = cited(recorder, logic)?;
+    make_table(recorder, earlier, &DISCHARGED)
 }
 
 // The same, and the laws of `/\` and `==>`.
-fn with_sides(recorder: &mut Recorder, alloc: Global, logic: &Bool) -> Result<Vec<Rec>, Fault>
+fn with_sides(recorder: &mut Recorder, logic: &Bool) -> Result<Vec<Rec>, Fault>
     requires logic { HasLogic recorder.old logic.now }
     requires theory { recorder.old.theory ≡ logical_definitions }
     ensures outcome { MakesTheorems (cited_theorems ++ discharged_laws ++ side_laws) recorder.new.theory result }
     ensures made { IfOk result (λ all. AreMade recorder.new all.items) }
     ensures grown { IsGrown recorder.old recorder.new }
 {
-    let earlier = with_discharged(recorder, alloc, logic)?;
-    make_table(recorder, alloc, earlier, &SIDES)
+    let earlier = with_discharged(recorder, logic)?;
+    make_table(recorder, earlier, &SIDES)
 }
 
 // The same, and the laws of `~` and `<=>`.
-fn with_negations(recorder: &mut Recorder, alloc: Global, logic: &Bool) -> Result<Vec<Rec>, Fault>
+fn with_negations(recorder: &mut Recorder, logic: &Bool) -> Result<Vec<Rec>, Fault>
     requires logic { HasLogic recorder.old logic.now }
     requires theory { recorder.old.theory ≡ logical_definitions }
     ensures outcome { MakesTheorems (cited_theorems ++ discharged_laws ++ side_laws ++ negation_laws) recorder.new.theory result }
     ensures made { IfOk result (λ all. AreMade recorder.new all.items) }
     ensures grown { IsGrown recorder.old recorder.new }
 {
-    let earlier = with_sides(recorder, alloc, logic)?;
-    make_table(recorder, alloc, earlier, &NEGATIONS)
+    let earlier = with_sides(recorder, logic)?;
+    make_table(recorder, earlier, &NEGATIONS)
 }
 
 // The same, and the law of `\/`.
-fn with_disjunction(recorder: &mut Recorder, alloc: Global, logic: &Bool) -> Result<Vec<Rec>, Fault>
+fn with_disjunction(recorder: &mut Recorder, logic: &Bool) -> Result<Vec<Rec>, Fault>
     requires logic { HasLogic recorder.old logic.now }
     requires theory { recorder.old.theory ≡ logical_definitions }
     ensures outcome { MakesTheorems (cited_theorems ++ discharged_laws ++ side_laws ++ negation_laws ++ disjunction_laws) recorder.new.theory result }
     ensures made { IfOk result (λ all. AreMade recorder.new all.items) }
     ensures grown { IsGrown recorder.old recorder.new }
 {
-    let earlier = with_negations(recorder, alloc, logic)?;
-    make_table(recorder, alloc, earlier, &DISJUNCTION)
+    let earlier = with_negations(recorder, logic)?;
+    make_table(recorder, earlier, &DISJUNCTION)
 }
 
 /// All of them.
-pub(crate) fn with_denial(
-    recorder: &mut Recorder,
-    alloc: Global,
-    logic: &Bool,
-) -> Result<Vec<Rec>, Fault>
+pub(crate) fn with_denial(recorder: &mut Recorder, logic: &Bool) -> Result<Vec<Rec>, Fault>
     requires logic { HasLogic recorder.old logic.now }
     requires theory { recorder.old.theory ≡ logical_definitions }
     ensures outcome { MakesTheorems tautology_theorems recorder.new.theory result }
     ensures made { IfOk result (λ all. AreMade recorder.new all.items) }
     ensures grown { IsGrown recorder.old recorder.new }
 {
-    let earlier = with_disjunction(recorder, alloc, logic)?;
-    make_table(recorder, alloc, earlier, &DENIAL)
+    let earlier = with_disjunction(recorder, logic)?;
+    make_table(recorder, earlier, &DENIAL)
 }

@@ -13,7 +13,6 @@ use crate::stages::with_denial;
 use hol_journal::{Rec, Recorder};
 use hol_model::Fault;
 use hol_prelude::Bool;
-use std::alloc::Global;
 
 /// The laws of the connectives at truth values, with the theorems that their derivations cite.
 #[derive(Drop)]
@@ -23,7 +22,7 @@ pub struct Laws {
 
 /// The laws, made over the theory of the logical constants, right behind the prelude. It is refused where there is no
 /// memory, and for no other reason.
-pub fn tautology_laws(recorder: &mut Recorder, alloc: Global, logic: &Bool) -> Result<Laws, Fault>
+pub fn tautology_laws(recorder: &mut Recorder, logic: &Bool) -> Result<Laws, Fault>
     requires logic { HasLogic recorder.old logic.now }
     requires theory { recorder.old.theory ≡ logical_definitions }
     ensures laws { IfOk result (HasLaws recorder.new) }
@@ -31,7 +30,7 @@ pub fn tautology_laws(recorder: &mut Recorder, alloc: Global, logic: &Bool) -> R
     ensures err { IfErr result (λ fault. fault ≡ Memory) }
     ensures grown { IsGrown recorder.old recorder.new }
 {
-    let theorems = with_denial(recorder, alloc, logic)?;
+    let theorems = with_denial(recorder, logic)?;
     Ok(Laws { theorems })
 }
 

@@ -30,35 +30,30 @@ fn add_names(alloc: Global, scope: &mut Scope) -> Result<(), Fault> {
 }
 
 // How many inferences TAUT takes by these laws.
-fn inferences_by(
-    recorder: &mut Recorder,
-    alloc: Global,
-    laws: &Laws,
-    formula: &Term,
-) -> Result<usize, Fault>
+fn inferences_by(recorder: &mut Recorder, laws: &Laws, formula: &Term) -> Result<usize, Fault>
     requires { HasLaws recorder.old laws.now }
 {
     let before = recorder.entries();
-    match taut(recorder, alloc, laws, formula) {
+    match taut(recorder, laws, formula) {
         Ok(_theorem) => Ok(recorder.entries().saturating_sub(before)),
         Err(fault) => Err(fault),
     }
 }
 
 // The same in a theory that has nothing yet.
-fn inferences_from(recorder: &mut Recorder, alloc: Global, formula: &Term) -> Result<usize, Fault>
+fn inferences_from(recorder: &mut Recorder, formula: &Term) -> Result<usize, Fault>
     requires { recorder.old.theory ≡ [] }
 {
-    let logic = prelude(recorder, alloc)?;
-    let laws = tautology_laws(recorder, alloc, &logic)?;
-    inferences_by(recorder, alloc, &laws, formula)
+    let logic = prelude(recorder)?;
+    let laws = tautology_laws(recorder, &logic)?;
+    inferences_by(recorder, &laws, formula)
 }
 
 // The same for a formula's text.
 fn inferences(alloc: Global, scope: &Scope, text: &str) -> Result<usize, Fault> {
     let formula = read_term(alloc, scope, text.as_bytes())?;
     let mut recorder = Recorder::new(alloc)?;
-    inferences_from(&mut recorder, alloc, &formula)
+    inferences_from(&mut recorder, &formula)
 }
 
 // Whether the first formula takes at most so many inferences more than the others.

@@ -13,15 +13,15 @@ const SCRIPT: &[u8] = b"thm a = REFL `(x:bool)` ;;";
 // A recorder of a declared type and so many axioms.
 fn recorder_of(alloc: Global, axioms: usize) -> Result<Recorder, Fault> {
     let mut recorder = Recorder::new(alloc)?;
-    recorder.new_type(alloc, "num")?;
-    make(alloc, &mut recorder, axioms)?;
+    recorder.new_type("num")?;
+    make(&mut recorder, axioms)?;
     Ok(recorder)
 }
 
 // So many axioms more.
-fn make(alloc: Global, recorder: &mut Recorder, axioms: usize) -> Result<(), Fault> {
+fn make(recorder: &mut Recorder, axioms: usize) -> Result<(), Fault> {
     for _ in 0..axioms {
-        recorder.eta(alloc)?;
+        recorder.eta()?;
     }
     Ok(())
 }
@@ -54,7 +54,7 @@ fn gives_back(alloc: Global) -> Result<bool, Fault> {
     let all = kept(&recorder);
     recorder.give_back(2);
     let first = kept(&recorder);
-    make(alloc, &mut recorder, 2)?;
+    make(&mut recorder, 2)?;
     let later = kept(&recorder);
     recorder.give_back(6);
     let same = kept(&recorder);
@@ -67,7 +67,7 @@ fn gives_back(alloc: Global) -> Result<bool, Fault> {
 fn forgets(alloc: Global) -> Result<bool, Fault> {
     let mut recorder = recorder_of(alloc, 1)?;
     recorder.forget();
-    make(alloc, &mut recorder, 1)?;
+    make(&mut recorder, 1)?;
     Ok(recorder.entries() == 3 && kept(&recorder) == 0)
 }
 

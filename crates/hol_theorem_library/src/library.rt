@@ -32,8 +32,8 @@ impl Library {
         ensures err { IfErr result (λ fault. fault ≡ Memory) }
     {
         let mut recorder = Recorder::new(alloc)?;
-        let logic = prelude(&mut recorder, alloc)?;
-        let laws = tautology_laws(&mut recorder, alloc, &logic)?;
+        let logic = prelude(&mut recorder)?;
+        let laws = tautology_laws(&mut recorder, &logic)?;
         Ok(Library {
             recorder,
             logic,
