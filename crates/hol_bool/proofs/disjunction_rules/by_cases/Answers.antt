@@ -15,7 +15,7 @@ use Rattle.hol_bool.proofs.ImplicationAnswers.{disch-fits}
 use Rattle.hol_bool.proofs.PreludeSteps.{still_formula, where-no-room}
 use Rattle.hol_bool.proofs.DisjunctionAnswers.{other-is, other-formula, disjunction-fits, other-fits, both-fits, first-case-fits, second-case-fits}
 use Rattle.hol_bool.proofs.Passing.{unchanged}
-use Rattle.hol_equal.proofs.StepLemmas.{passed_on}
+use Rattle.hol_equal.proofs.StepLemmas.{passed_on, still_made}
 use Rattle.hol_bool.proofs.disjunction_rules.by_cases.Goals as goal
 
 pub returns-in_err-rest-clause-derives : goal.returns-in_err-rest-clause-derives
@@ -82,6 +82,11 @@ with_case-requires-2-clause-fits c =
     let rest_is = other-is c.in_ok-rest.rest q r c.requires.right.typed formula.typed c.in_ok-rest.ensures in
     let met : image r ≡ image c.args.second.now.theorem.conclusion = ap image concluded.value ∙ c.requires.meet in
     ap image (c.in_ok-other.ensures.names ∙ rest_is) ∙ ap (λ (u : Nameless). nameless.implication (nameless.implication (image q) u) (image r)) met
+
+pub with_case-requires-2-clause-case : goal.with_case-requires-2-clause-case
+with_case-requires-2-clause-case c =
+    still_made c.disj_cases_in_room.new.recorder c.with_case.new.recorder (Ok c.in_ok-other.other) c.args.second.now c.in_ok-other.ensures.continues
+    (still_made c.args.recorder.now c.disj_cases_in_room.new.recorder (Ok c.in_ok-cases.cases) c.args.second.now c.in_ok-cases.ensures.continues c.requires.second)
 
 pub returns-in_err-other-clause-derives : goal.returns-in_err-other-clause-derives
 returns-in_err-other-clause-derives c h i j s room theorem first second left_room right_room s_room =
