@@ -1,5 +1,5 @@
 -- The rules of names, with their number of terms.
-use Rattle.std.proofs.Common.{◌≡◌, List, [], ◌∷◌, length, refl, sym, ◌∙◌, Option, None, Some}
+use Rattle.std.proofs.Common.{◌≡◌, List, [], ◌∷◌, length, refl, Option, None, Some}
 use Rattle.std.specs.Prelude.{IsSome}
 use Rattle.hol_model.specs.Terms.NamedTerm.{NamedTerm}
 use Rattle.hol_model.specs.Derived.InferenceRules.{InferenceRule}
