@@ -5,7 +5,6 @@ ghost use Rattle.hol_journal.specs.Journal.{IsMade, theorem_in};
 ghost use Rattle.hol_prelude.specs.HasLogic.{HasLogic};
 ghost use Rattle.hol_equal.specs.Sequents.{Continues};
 ghost use Rattle.hol_equal.specs.Inferred.{Infers};
-ghost use Rattle.hol_just.specs.Rules.{rule_of};
 ghost use Rattle.hol_just_replay.specs.Room.{FindsRoom};
 ghost use Rattle.hol_just_replay.specs.Outcomes.{AnswersBy, AreLent, lent_theorems};
 
@@ -34,9 +33,9 @@ fn refuse(recorder: &mut Recorder) -> Result<Rec, Fault>
 fn on_none(recorder: &mut Recorder, logic: &Bool, rule: &Rule) -> Result<Rec, Fault>
     requires logic { HasLogic recorder.old logic.now }
     ensures continues { Continues recorder.old recorder.new result }
-    ensures inferred { Infers recorder.old.theory (rule_of rule.now) [] (theorem_in result) }
-    ensures room { FindsRoom recorder.old.theory (rule_of rule.now) [] (theorem_in result) }
-    ensures outcome { AnswersBy recorder.old.theory (rule_of rule.now) [] (theorem_in result) }
+    ensures inferred { Infers recorder.old.theory rule.now [] (theorem_in result) }
+    ensures room { FindsRoom recorder.old.theory rule.now [] (theorem_in result) }
+    ensures outcome { AnswersBy recorder.old.theory rule.now [] (theorem_in result) }
 {
     recorder.theory_is_legal();
     primitive_rules_infer();
@@ -69,9 +68,9 @@ fn on_one(recorder: &mut Recorder, logic: &Bool, rule: &Rule, premise: &Rec) -> 
     requires logic { HasLogic recorder.old logic.now }
     requires premise { IsMade recorder.old premise.now }
     ensures continues { Continues recorder.old recorder.new result }
-    ensures inferred { Infers recorder.old.theory (rule_of rule.now) (premise.now.theorem ∷ []) (theorem_in result) }
-    ensures room { FindsRoom recorder.old.theory (rule_of rule.now) (premise.now.theorem ∷ []) (theorem_in result) }
-    ensures outcome { AnswersBy recorder.old.theory (rule_of rule.now) (premise.now.theorem ∷ []) (theorem_in result) }
+    ensures inferred { Infers recorder.old.theory rule.now (premise.now.theorem ∷ []) (theorem_in result) }
+    ensures room { FindsRoom recorder.old.theory rule.now (premise.now.theorem ∷ []) (theorem_in result) }
+    ensures outcome { AnswersBy recorder.old.theory rule.now (premise.now.theorem ∷ []) (theorem_in result) }
 {
     let _premise = conclusion_of(recorder, premise);
     primitive_rules_infer();
@@ -134,9 +133,9 @@ fn on_two(
     requires first { IsMade recorder.old first.now }
     requires second { IsMade recorder.old second.now }
     ensures continues { Continues recorder.old recorder.new result }
-    ensures inferred { Infers recorder.old.theory (rule_of rule.now) (first.now.theorem ∷ second.now.theorem ∷ []) (theorem_in result) }
-    ensures room { FindsRoom recorder.old.theory (rule_of rule.now) (first.now.theorem ∷ second.now.theorem ∷ []) (theorem_in result) }
-    ensures outcome { AnswersBy recorder.old.theory (rule_of rule.now) (first.now.theorem ∷ second.now.theorem ∷ []) (theorem_in result) }
+    ensures inferred { Infers recorder.old.theory rule.now (first.now.theorem ∷ second.now.theorem ∷ []) (theorem_in result) }
+    ensures room { FindsRoom recorder.old.theory rule.now (first.now.theorem ∷ second.now.theorem ∷ []) (theorem_in result) }
+    ensures outcome { AnswersBy recorder.old.theory rule.now (first.now.theorem ∷ second.now.theorem ∷ []) (theorem_in result) }
 {
     let _first = conclusion_of(recorder, first);
     let _second = conclusion_of(recorder, second);
@@ -169,9 +168,9 @@ fn on_three(
     requires second { IsMade recorder.old second.now }
     requires third { IsMade recorder.old third.now }
     ensures continues { Continues recorder.old recorder.new result }
-    ensures inferred { Infers recorder.old.theory (rule_of rule.now) (first.now.theorem ∷ second.now.theorem ∷ third.now.theorem ∷ []) (theorem_in result) }
-    ensures room { FindsRoom recorder.old.theory (rule_of rule.now) (first.now.theorem ∷ second.now.theorem ∷ third.now.theorem ∷ []) (theorem_in result) }
-    ensures outcome { AnswersBy recorder.old.theory (rule_of rule.now) (first.now.theorem ∷ second.now.theorem ∷ third.now.theorem ∷ []) (theorem_in result) }
+    ensures inferred { Infers recorder.old.theory rule.now (first.now.theorem ∷ second.now.theorem ∷ third.now.theorem ∷ []) (theorem_in result) }
+    ensures room { FindsRoom recorder.old.theory rule.now (first.now.theorem ∷ second.now.theorem ∷ third.now.theorem ∷ []) (theorem_in result) }
+    ensures outcome { AnswersBy recorder.old.theory rule.now (first.now.theorem ∷ second.now.theorem ∷ third.now.theorem ∷ []) (theorem_in result) }
 {
     let _first = conclusion_of(recorder, first);
     match rule {
@@ -185,9 +184,9 @@ fn on_three(
 fn refuse_many(recorder: &mut Recorder, rule: &Rule, premises: &[&Rec]) -> Result<Rec, Fault>
     requires { 3 < length premises.now }
     ensures continues { Continues recorder.old recorder.new result }
-    ensures inferred { Infers recorder.old.theory (rule_of rule.now) (lent_theorems premises.now) (theorem_in result) }
-    ensures room { FindsRoom recorder.old.theory (rule_of rule.now) (lent_theorems premises.now) (theorem_in result) }
-    ensures outcome { AnswersBy recorder.old.theory (rule_of rule.now) (lent_theorems premises.now) (theorem_in result) }
+    ensures inferred { Infers recorder.old.theory rule.now (lent_theorems premises.now) (theorem_in result) }
+    ensures room { FindsRoom recorder.old.theory rule.now (lent_theorems premises.now) (theorem_in result) }
+    ensures outcome { AnswersBy recorder.old.theory rule.now (lent_theorems premises.now) (theorem_in result) }
 {
     let _rule = rule;
     let _premises = premises.len();
@@ -207,9 +206,9 @@ pub fn apply_rule(
     requires logic { HasLogic recorder.old logic.now }
     requires premises { AreLent recorder.old premises.now }
     ensures continues { Continues recorder.old recorder.new result }
-    ensures inferred { Infers recorder.old.theory (rule_of rule.now) (lent_theorems premises.now) (theorem_in result) }
-    ensures room { FindsRoom recorder.old.theory (rule_of rule.now) (lent_theorems premises.now) (theorem_in result) }
-    ensures outcome { AnswersBy recorder.old.theory (rule_of rule.now) (lent_theorems premises.now) (theorem_in result) }
+    ensures inferred { Infers recorder.old.theory rule.now (lent_theorems premises.now) (theorem_in result) }
+    ensures room { FindsRoom recorder.old.theory rule.now (lent_theorems premises.now) (theorem_in result) }
+    ensures outcome { AnswersBy recorder.old.theory rule.now (lent_theorems premises.now) (theorem_in result) }
 {
     match premises {
         [] => on_none(recorder, logic, rule),

@@ -11,7 +11,7 @@ ghost use Rattle.hol_model.specs.Logic.Derivable.{nameless_equation};
 ghost use Rattle.hol_model.specs.Kernel.Rules.{first_unknown};
 ghost use Rattle.hol_model.specs.Logic.Theory.{IsKnown};
 ghost use Rattle.hol_model.specs.Derived.DerivedRules.{AnswersStated, images, is_roomy, terms_of_theorem, exists_outcome};
-ghost use Rattle.hol_model.specs.Derived.InferenceRules.{rule_exists};
+ghost use Rattle.hol_model.specs.declared.rule.Rule.TheVariants as rules;
 ghost use Rattle.hol_journal.specs.Journal.{IsMade, theorem_in};
 ghost use Rattle.hol_prelude.specs.HasLogic.{HasLogic};
 ghost use Rattle.hol_equal.specs.Room.{Room, FitsIf};
@@ -150,7 +150,7 @@ pub fn exists(
     ensures continues { Continues recorder.old recorder.new result }
     ensures outcome { AnswersStated (theorem_in result) (image formula.now ∷ image witness.now ∷ terms_of_theorem premise.now.theorem)
         (exists_outcome recorder.old.theory formula.now witness.now premise.now.theorem) }
-    ensures inferred { Infers recorder.old.theory (rule_exists formula.now witness.now) (premise.now.theorem ∷ []) (theorem_in result) }
+    ensures inferred { Infers recorder.old.theory (rules.Exists formula.now witness.now) (premise.now.theorem ∷ []) (theorem_in result) }
 {
     let alloc = recorder.alloc();
     let _formula_type = formula.ty();

@@ -10,7 +10,7 @@ ghost use Rattle.hol_model.specs.Terms.Nameless.{free, const, app, image};
 ghost use Rattle.hol_model.specs.Logic.Derivable.{nameless_equation};
 ghost use Rattle.hol_model.specs.Kernel.Rules.{is_free_in_hypotheses};
 ghost use Rattle.hol_model.specs.Derived.DerivedRules.{AnswersStated, images, terms_of_theorem, gen_outcome};
-ghost use Rattle.hol_model.specs.Derived.InferenceRules.{rule_gen};
+ghost use Rattle.hol_model.specs.declared.rule.Rule.TheVariants as rules;
 ghost use Rattle.hol_journal.specs.Journal.{IsMade, theorem_in};
 ghost use Rattle.hol_prelude.specs.HasLogic.{HasLogic};
 ghost use Rattle.hol_equal.specs.Room.{Room, FitsIf};
@@ -129,7 +129,7 @@ pub fn generalize(
     requires premise { IsMade recorder.old premise.now }
     ensures continues { Continues recorder.old recorder.new result }
     ensures outcome { AnswersStated (theorem_in result) (terms_of_theorem premise.now.theorem) (gen_outcome recorder.old.theory binder.now premise.now.theorem) }
-    ensures inferred { Infers recorder.old.theory (rule_gen binder.now) (premise.now.theorem ∷ []) (theorem_in result) }
+    ensures inferred { Infers recorder.old.theory (rules.Gen binder.now) (premise.now.theorem ∷ []) (theorem_in result) }
 {
     let alloc = recorder.alloc();
     let Some((name, ty)) = binder.dest_var() else {

@@ -1,7 +1,10 @@
-use Rattle.std.proofs.Common.{sym}
+use Rattle.std.proofs.Common.{List, subst}
+use Rattle.hol_model.specs.Terms.HolType.{HolType}
+use Rattle.hol_model.specs.Terms.NamedTerm.{NamedTerm}
 use Rattle.hol_model.specs.Terms.Substitution.{put_all}
+use Rattle.hol_model.specs.Kernel.Outcome.{AnswersSuch}
 use Rattle.hol_model.specs.Kernel.Rules.{abs_outcome}
-use Rattle.hol_model.specs.Kernel.Instantiation.{inst_refusal, instantiate_all, inst_type_refusal}
+use Rattle.hol_model.specs.Kernel.Instantiation.{inst_refusal, IsInst, instantiate_all, inst_type_refusal, IsInstType}
 use Rattle.hol_journal.specs.Steps.{by_abs, by_inst, by_inst_type}
 use Rattle.hol_journal.specs.Journal.{theorem_in}
 use Rattle.hol_equal.proofs.StepLemmas.{continues, continues-changed, abs-stands}
@@ -31,8 +34,11 @@ returns-in-Inst-clause-continues c =
 
 pub returns-in-Inst-clause-inferred : goal.returns-in-Inst-clause-inferred
 returns-in-Inst-clause-inferred c =
-    rw (c.in-Inst.is, sym c.deref.ensures.value) ((c.primitive_rules_infer.ensures c.args.recorder.now.theory c.conclusion_of-premise.ensures.legal).inst
-    c.deref.result.now c.args.premise.now.theorem (theorem_in c.inst.result) c.inst.ensures.outcome)
+    let theory = c.args.recorder.now.theory in
+    let premise = c.args.premise.now.theorem in
+    rw c.in-Inst.is ((c.primitive_rules_infer.ensures theory c.conclusion_of-premise.ensures.legal).inst c.in-Inst.theta premise (theorem_in c.inst.result)
+    (subst (λ (pairs : List (NamedTerm × NamedTerm)). AnswersSuch (theorem_in c.inst.result) (inst_refusal theory pairs premise) (IsInst theory pairs premise))
+    c.deref.ensures.value c.inst.ensures.outcome))
 
 pub returns-in-InstType-clause-continues : goal.returns-in-InstType-clause-continues
 returns-in-InstType-clause-continues c =
@@ -43,8 +49,11 @@ returns-in-InstType-clause-continues c =
 
 pub returns-in-InstType-clause-inferred : goal.returns-in-InstType-clause-inferred
 returns-in-InstType-clause-inferred c =
-    rw (c.in-InstType.is, sym c.deref-in-InstType.ensures.value) ((c.primitive_rules_infer.ensures c.args.recorder.now.theory c.conclusion_of-premise.ensures.legal).inst_type
-    c.deref-in-InstType.result.now c.args.premise.now.theorem (theorem_in c.inst_type.result) c.inst_type.ensures.outcome)
+    let theory = c.args.recorder.now.theory in
+    let premise = c.args.premise.now.theorem in
+    rw c.in-InstType.is ((c.primitive_rules_infer.ensures theory c.conclusion_of-premise.ensures.legal).inst_type c.in-InstType.theta premise (theorem_in c.inst_type.result)
+    (subst (λ (pairs : List (HolType × HolType)). AnswersSuch (theorem_in c.inst_type.result) (inst_type_refusal theory pairs premise) (IsInstType theory pairs premise))
+    c.deref-in-InstType.ensures.value c.inst_type.ensures.outcome))
 
 pub returns-in-Disch-clause-room : goal.returns-in-Disch-clause-room
 returns-in-Disch-clause-room c = rw c.in-Disch.is (room-disch c.ty-type-in-Disch.ensures c.disch.ensures.outcome)
