@@ -15,7 +15,8 @@ ghost use Rattle.hol_equal.specs.Formulas.{IsFormula};
 ghost use Rattle.hol_equal.specs.Room.{Room, FitsIf, MakesIf};
 ghost use Rattle.hol_bool.specs.PreludeInstances.{LeadsTo, at_p_q};
 ghost use Rattle.hol_bool.specs.Disjunctions.{LeavesRoomIf, MakesDisjunction, other_case, both_cases};
-ghost use Rattle.hol_equal.specs.Sequents.{Shows, DerivesIf, Continues};
+ghost use Rattle.hol_journal.specs.Growth.{Continues};
+ghost use Rattle.hol_equal.specs.Sequents.{Shows, DerivesIf};
 ghost use Rattle.hol_equal.specs.Inferred.{Infers};
 
 use crate::formula_terms::{Sides, connect, for_p_q, for_p_q_r};

@@ -28,13 +28,13 @@ use Rattle.hol_model.proofs.Terms.Images.{image-type}
 use Rattle.std.specs.List.{list_all}
 use Rattle.std.proofs.lemmas.List.Folds.{list_all-append, list_all_at}
 use Rattle.hol_journal.specs.Journal.{Journal, Recorded, IsMade, theorem_in}
-use Rattle.hol_journal.specs.Growth.{IsGrown}
+use Rattle.hol_journal.specs.Growth.{IsGrown, Continues}
 use Rattle.hol_journal.proofs.GrowthLemmas.{journals-grow}
 use Rattle.hol_prelude_derivations.specs.Derivations.{AreMade}
 use Rattle.hol_prelude.specs.declared.stored.Bool.{Bool as Stored}
 use Rattle.hol_prelude.specs.HasLogic.{HasLogic}
 use Rattle.hol_equal.specs.Formulas.{IsFormula}
-use Rattle.hol_equal.specs.Sequents.{Continues, Gives}
+use Rattle.hol_equal.specs.Sequents.{Gives}
 use Rattle.hol_equal.specs.Inferred.{IsDrawn, Infers}
 use Rattle.hol_bool.proofs.LogicLemmas.{logical-type}
 use Rattle.hol_equal.proofs.DrawnTerms.{one_premise, two_premises}

@@ -5,10 +5,9 @@ ghost use Rattle.hol_model.specs.declared.fault.Fault.TheVariants.{Memory, Inval
 ghost use Rattle.hol_model.specs.Goals.Justifications.{Justification};
 ghost use Rattle.hol_model.specs.Goals.Replays.{IsReplay};
 ghost use Rattle.hol_journal.specs.Journal.{Journal, IsMade, theorem_in};
-ghost use Rattle.hol_journal.specs.Growth.{IsGrown};
+ghost use Rattle.hol_journal.specs.Growth.{IsGrown, Continues, IsHeld};
 ghost use Rattle.hol_prelude_derivations.specs.Derivations.{AreMade};
 ghost use Rattle.hol_prelude.specs.HasLogic.{HasLogic};
-ghost use Rattle.hol_equal.specs.Sequents.{Continues, IsHeld};
 ghost use Rattle.hol_just.specs.Flat.{cites_below, cite_earlier, are_below, cited};
 ghost use Rattle.hol_just.specs.Lines.{flat_line, flat_lines};
 ghost use Rattle.hol_just.specs.Steps.{tree_of};

@@ -12,10 +12,9 @@ ghost use Rattle.hol_model.specs.Derived.DerivedRules.{terms_of_theorem, Answers
 ghost use Rattle.hol_model.specs.declared.rule.Rule.TheVariants as rules;
 ghost use Rattle.hol_just_replay.specs.Room.{IsNotLarge, are_roomy};
 ghost use Rattle.hol_journal.specs.Journal.{IsMade, theorem_in};
-ghost use Rattle.hol_journal.specs.Growth.{IsGrown};
+ghost use Rattle.hol_journal.specs.Growth.{IsGrown, Continues, IsHeld};
 ghost use Rattle.hol_prelude_derivations.specs.Derivations.{AreMade};
 ghost use Rattle.hol_prelude.specs.HasLogic.{HasLogic};
-ghost use Rattle.hol_equal.specs.Sequents.{Continues, IsHeld};
 ghost use Rattle.hol_equal.specs.Formulas.{IsFormula};
 ghost use Rattle.hol_equal.specs.Inferred.{IsDrawn, Infers};
 ghost use Rattle.hol_just.specs.Steps.{goal_of, goals_of};
