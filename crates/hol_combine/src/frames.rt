@@ -117,24 +117,10 @@ pub(crate) fn descend(
 }
 
 /// The frame that was on top again, with a step more.
-pub(crate) fn resume(stack: &mut Vec<Frame>, frame: Frame, made: Step) -> Result<(), Fault>
+pub(crate) fn resume(stack: &mut Vec<Frame>, mut frame: Frame, made: Step) -> Result<(), Fault>
     ensures ok { OnOk result (frames_of stack.new.items ≡ with_done (frame_of frame) (step_of made) ∷ frames_of stack.old.items) }
     ensures err { IfErr result (λ fault. fault ≡ Memory) }
 {
-    let Frame {
-        just,
-        goals,
-        mut done,
-        above,
-    } = frame;
-    keep(&mut done, made)?;
-    push(
-        stack,
-        Frame {
-            just,
-            goals,
-            done,
-            above,
-        },
-    )
+    keep(&mut frame.done, made)?;
+    push(stack, frame)
 }
