@@ -10,7 +10,8 @@ use Rattle.hol_model.specs.Kernel.Theorem.{Theorem}
 use Rattle.hol_journal.specs.Journal.{Journal, Recorded}
 use Rattle.hol_bool.specs.Axioms.{IsAxiom}
 use Rattle.hol_prelude.specs.Prelude.{prelude_theorems, shown}
-use Rattle.hol_equal.specs.Sequents.{Shows, DerivesIf, Continues}
+use Rattle.hol_journal.specs.Growth.{Continues}
+use Rattle.hol_equal.specs.Sequents.{Shows, DerivesIf}
 use Rattle.hol_equal.proofs.CutLemmas.{shows-itself}
 
 -- the theorem of the number

@@ -14,8 +14,7 @@ use Rattle.hol_model.specs.Kernel.Rules.{dest_equation, first_unknown, is_formul
 use Rattle.hol_model.specs.Derived.DerivedRules.{images, stated, conjunct1_outcome, conjunct2_outcome, disch_outcome, undisch_outcome, mp_outcome}
 use Rattle.hol_model.specs.Derived.DerivedRules.{disj1_outcome, disj2_outcome, disj_cases_outcome, contr_outcome, not_intro_outcome, not_elim_outcome}
 use Rattle.hol_model.specs.Derived.DerivedRules.{eqt_elim_outcome}
-use Rattle.hol_model.specs.Derived.InferenceRules.{rule_conjunct1, rule_conjunct2, rule_disch, rule_undisch, rule_mp, rule_disj1, rule_disj2}
-use Rattle.hol_model.specs.Derived.InferenceRules.{rule_disj_cases, rule_contr, rule_not_intro, rule_not_elim, rule_eqt_elim}
+use Rattle.hol_model.specs.declared.rule.Rule.TheVariants as rules
 use Rattle.hol_model.specs.Logic.NamedLogic as named
 use Rattle.hol_model.specs.Logic.NamelessLogic as nameless
 use Rattle.hol_model.specs.Logic.Logic as nameless_formulas
@@ -113,25 +112,25 @@ module _ (journal : Journal) (logic : Stored) (has : HasLogic journal logic) (le
   at : (name : List ℕ) → generic_type logical_definitions name ≡ Some binary → (a : Theorem) → IsPremise journal.theory a → Connected journal.theory name a.conclusion
   at name generic a premise = connected journal.theory name (logical-type journal logic has legal name binary generic) a.conclusion premise
 
-  pub drawn-conjunct1 : (a : Theorem) → IsPremise journal.theory a → Draws journal.theory rule_conjunct1 (a ∷ []) (conjunct1_outcome a)
+  pub drawn-conjunct1 : (a : Theorem) → IsPremise journal.theory a → Draws journal.theory rules.Conjunct1 (a ∷ []) (conjunct1_outcome a)
   drawn-conjunct1 a premise = elim (at and_name refl a premise) [
     | parted left right dest sides shown ↦ rw (dest, shown) (drawn-of_one a left (image left) refl)
     | apart dest shown ↦ rw (dest, shown) tt
   ]
 
-  pub drawn-conjunct2 : (a : Theorem) → IsPremise journal.theory a → Draws journal.theory rule_conjunct2 (a ∷ []) (conjunct2_outcome a)
+  pub drawn-conjunct2 : (a : Theorem) → IsPremise journal.theory a → Draws journal.theory rules.Conjunct2 (a ∷ []) (conjunct2_outcome a)
   drawn-conjunct2 a premise = elim (at and_name refl a premise) [
     | parted left right dest sides shown ↦ rw (dest, shown) (drawn-of_one a right (image right) refl)
     | apart dest shown ↦ rw (dest, shown) tt
   ]
 
-  pub drawn-undisch : (a : Theorem) → IsPremise journal.theory a → Draws journal.theory rule_undisch (a ∷ []) (undisch_outcome a)
+  pub drawn-undisch : (a : Theorem) → IsPremise journal.theory a → Draws journal.theory rules.Undisch (a ∷ []) (undisch_outcome a)
   drawn-undisch a premise = elim (at implies_name refl a premise) [
     | parted left right dest sides shown ↦ rw (dest, shown) (record { hypotheses = same_set (ap (λ (h : List Nameless). image left ∷ h) (sym (one_premise (images a)))); conclusion = refl })
     | apart dest shown ↦ rw (dest, shown) tt
   ]
 
-  pub drawn-mp : (a b : Theorem) → IsPremise journal.theory a → Draws journal.theory rule_mp (a ∷ b ∷ []) (mp_outcome a b)
+  pub drawn-mp : (a b : Theorem) → IsPremise journal.theory a → Draws journal.theory rules.Mp (a ∷ b ∷ []) (mp_outcome a b)
   drawn-mp a b premise = elim (at implies_name refl a premise) [
     | parted left right dest sides shown ↦ rw (dest, shown) (go left right (same_term (image left) (image b.conclusion)))
     | apart dest shown ↦ rw (dest, shown) tt
@@ -142,7 +141,7 @@ module _ (journal : Journal) (logic : Stored) (has : HasLogic journal logic) (le
       go left right true = drawn-of_two a b right (image right) refl
       go left right false = tt
 
-  pub drawn-disj_cases : (a b c : Theorem) → IsPremise journal.theory a → Draws journal.theory rule_disj_cases (a ∷ b ∷ c ∷ []) (disj_cases_outcome a b c)
+  pub drawn-disj_cases : (a b c : Theorem) → IsPremise journal.theory a → Draws journal.theory rules.DisjCases (a ∷ b ∷ c ∷ []) (disj_cases_outcome a b c)
   drawn-disj_cases a b c premise = elim (at or_name refl a premise) [
     | parted left right dest sides shown ↦ rw (dest, shown) (go left right (same_term (image b.conclusion) (image c.conclusion)))
     | apart dest shown ↦ rw (dest, shown) tt
@@ -157,7 +156,7 @@ module _ (journal : Journal) (logic : Stored) (has : HasLogic journal logic) (le
       go left right true = record { hypotheses = same_set (passes (image left) (image right)); conclusion = refl }
       go left right false = tt
 
-  pub drawn-not_elim : (a : Theorem) → IsPremise journal.theory a → Draws journal.theory rule_not_elim (a ∷ []) (not_elim_outcome a)
+  pub drawn-not_elim : (a : Theorem) → IsPremise journal.theory a → Draws journal.theory rules.NotElim (a ∷ []) (not_elim_outcome a)
   drawn-not_elim a premise = go (named.dest_negation a.conclusion) refl
     where
       go : (found : Option NamedTerm) → named.dest_negation a.conclusion ≡ found
@@ -181,7 +180,7 @@ module _ (journal : Journal) (logic : Stored) (has : HasLogic journal logic) (le
           ap (λ (t : NamedTerm). same_term (image t) (const name bool_type)) term_is ∙ (same_term-Decides (const name bool_type) (const name bool_type)).1 refl
       go false is = not-constant name bool_type term is
 
-  pub drawn-not_intro : (a : Theorem) → IsPremise journal.theory a → Draws journal.theory rule_not_intro (a ∷ []) (not_intro_outcome a)
+  pub drawn-not_intro : (a : Theorem) → IsPremise journal.theory a → Draws journal.theory rules.NotIntro (a ∷ []) (not_intro_outcome a)
   drawn-not_intro a premise = elim (at implies_name refl a premise) [
     | parted left right dest sides shown ↦ rw (dest, shown, same-constant false_name refl right bool_type sides.right_formula.known) (go left (named.is_false right))
     | apart dest shown ↦ rw (dest, shown) tt
@@ -192,7 +191,7 @@ module _ (journal : Journal) (logic : Stored) (has : HasLogic journal logic) (le
       go left true = drawn-of_one a (named.negation left) (nameless.negation (image left)) refl
       go left false = tt
 
-  pub drawn-contr : (p : NamedTerm) (ty : HolType) (a : Theorem) → type_of p ≡ Some ty → IsPremise journal.theory a → Draws journal.theory (rule_contr p) (a ∷ []) (contr_outcome journal.theory p a)
+  pub drawn-contr : (p : NamedTerm) (ty : HolType) (a : Theorem) → type_of p ≡ Some ty → IsPremise journal.theory a → Draws journal.theory (rules.Contr p) (a ∷ []) (contr_outcome journal.theory p a)
   drawn-contr p ty a typed premise = rw (same-constant false_name refl a.conclusion bool_type premise.known) (go (named.is_false a.conclusion))
     where
       go : (test : Bool) → StatesDrawn (unless test BadShape (unless (is_formula p) NotBool (refused (first_unknown journal.theory p) (stated (images a) p))))
@@ -202,7 +201,7 @@ module _ (journal : Journal) (logic : Stored) (has : HasLogic journal logic) (le
           (drawn-of_one a p (image p) refl)
       go false = tt
 
-  pub drawn-eqt_elim : (a : Theorem) → IsPremise journal.theory a → Draws journal.theory rule_eqt_elim (a ∷ []) (eqt_elim_outcome a)
+  pub drawn-eqt_elim : (a : Theorem) → IsPremise journal.theory a → Draws journal.theory rules.EqtElim (a ∷ []) (eqt_elim_outcome a)
   drawn-eqt_elim a premise = go (dest_equation a.conclusion) refl
     where
       at_type : (left right : NamedTerm) (s : HolType) (test : Bool)
@@ -239,19 +238,19 @@ module _ (journal : Journal) (logic : Stored) (has : HasLogic journal logic) (le
 
 -- ---- rules of a term that comes in
 
-pub drawn-disch : (theory : Theory) (p : NamedTerm) (ty : HolType) (a : Theorem) → type_of p ≡ Some ty → Draws theory (rule_disch p) (a ∷ []) (disch_outcome theory p a)
+pub drawn-disch : (theory : Theory) (p : NamedTerm) (ty : HolType) (a : Theorem) → type_of p ≡ Some ty → Draws theory (rules.Disch p) (a ∷ []) (disch_outcome theory p a)
 drawn-disch theory p ty a typed =
     walked theory p ty bool_type typed NotBool (stated (without (image p) (images a)) (named.implication p a.conclusion))
     (record { passing = all_but (image p) ∷ []; supposed = []; conclusion = nameless_formulas.implication (image p) (image a.conclusion) }) (λ inference. drawn inference (images a ∷ []))
     (record { hypotheses = same_set (sym (one_premise (without (image p) (images a)))); conclusion = refl })
 
-pub drawn-disj1 : (theory : Theory) (q : NamedTerm) (ty : HolType) (a : Theorem) → type_of q ≡ Some ty → Draws theory (rule_disj1 q) (a ∷ []) (disj1_outcome theory q a)
+pub drawn-disj1 : (theory : Theory) (q : NamedTerm) (ty : HolType) (a : Theorem) → type_of q ≡ Some ty → Draws theory (rules.Disj1 q) (a ∷ []) (disj1_outcome theory q a)
 drawn-disj1 theory q ty a typed =
     walked theory q ty bool_type typed NotBool (stated (images a) (named.disjunction a.conclusion q))
     (record { passing = all ∷ []; supposed = []; conclusion = nameless.disjunction (image a.conclusion) (image q) }) (λ inference. drawn inference (images a ∷ []))
     (drawn-of_one a (named.disjunction a.conclusion q) (nameless.disjunction (image a.conclusion) (image q)) refl)
 
-pub drawn-disj2 : (theory : Theory) (p : NamedTerm) (ty : HolType) (a : Theorem) → type_of p ≡ Some ty → Draws theory (rule_disj2 p) (a ∷ []) (disj2_outcome theory p a)
+pub drawn-disj2 : (theory : Theory) (p : NamedTerm) (ty : HolType) (a : Theorem) → type_of p ≡ Some ty → Draws theory (rules.Disj2 p) (a ∷ []) (disj2_outcome theory p a)
 drawn-disj2 theory p ty a typed =
     walked theory p ty bool_type typed NotBool (stated (images a) (named.disjunction p a.conclusion))
     (record { passing = all ∷ []; supposed = []; conclusion = nameless.disjunction (image p) (image a.conclusion) }) (λ inference. drawn inference (images a ∷ []))

@@ -1,5 +1,6 @@
 -- The kernel's rules answer what the table of rules draws.
 use Rattle.std.proofs.Common.{◌≡◌, ◌⊎◌, ℕ, List, [], ◌∷◌, ◌++◌, map, Bool, true, false, ◌&&◌, ◌||◌, not, if◌then◌else◌, refl, sym, ◌∙◌, ap, subst, inl, inr, Option, Some, None, Result, Ok, Err}
+use Rattle.std.proofs.Common.{Vec, Global}
 use Rattle.std.specs.Option.{option_map, is_some}
 use Rattle.std.specs.List.{list_all}
 use Rattle.hol_model.specs.declared.fault.Fault.{Fault}
@@ -23,8 +24,8 @@ use Rattle.hol_model.specs.Kernel.Rules.{first_unknown, dest_equation, dest_triv
 use Rattle.hol_model.specs.Kernel.Rules.{assume_outcome, beta_outcome, trans_outcome, eq_mp_outcome, mk_comb_outcome, abs_outcome}
 use Rattle.hol_model.specs.Kernel.Rules.{deduct_antisym_outcome}
 use Rattle.hol_model.specs.Derived.DerivedRules.{images}
-use Rattle.hol_model.specs.Derived.InferenceRules.{InferenceRule, rule_refl, rule_trans, rule_mk_comb, rule_abs, rule_beta, rule_assume, rule_eq_mp}
-use Rattle.hol_model.specs.Derived.InferenceRules.{rule_deduct_antisym, rule_inst, rule_inst_type, rule_eta_axiom, rule_select_axiom}
+use Rattle.hol_model.specs.Derived.InferenceRules.{InferenceRule}
+use Rattle.hol_model.specs.declared.rule.Rule.TheVariants as rules
 use Rattle.hol_model.specs.Logic.NamelessLogic as nameless
 use Rattle.hol_model.specs.Derived.Inference.{given, require, conclude, all, all_changed, may_replace, may_replace_types, all_without_variable}
 use Rattle.hol_model.specs.Derived.Inference.{is_free_in_none, unchanged, is_known_term, drawn, rule_sequent}
@@ -86,19 +87,19 @@ type-is t ty typed = sym (nameless_type-is (image t) [] ty (image-typed t ty typ
 equation-of : (t u : NamedTerm) (ty : HolType) → type_of t ≡ Some ty → image (equation t u) ≡ nameless_equation (nameless_type [] (image t)) (image t) (image u)
 equation-of t u ty typed = image-equation t u ty typed ∙ ap (λ (s : HolType). nameless_equation s (image t) (image u)) (type-is t ty typed)
 
-pub refl-drawn : (theory : Theory) (t : NamedTerm) (ty : HolType) → type_of t ≡ Some ty → KernelDraws theory (rule_refl t) [] (refl_outcome theory t)
+pub refl-drawn : (theory : Theory) (t : NamedTerm) (ty : HolType) → type_of t ≡ Some ty → KernelDraws theory (rules.Refl t) [] (refl_outcome theory t)
 refl-drawn theory t ty typed =
     let c : Nameless = nameless_equation (nameless_type [] (image t)) (image t) (image t) in
     walked_known_by Gives none_drawn theory t ty typed (concluded theory [] (equation t t)) (record { passing = []; supposed = []; conclusion = c }) (λ inference. drawn inference [])
     (concluded-drawn theory [] (equation t t) [] c (same_set refl) (equation-of t t ty typed))
 
-pub assume-drawn : (theory : Theory) (p : NamedTerm) (ty : HolType) → type_of p ≡ Some ty → KernelDraws theory (rule_assume p) [] (assume_outcome theory p)
+pub assume-drawn : (theory : Theory) (p : NamedTerm) (ty : HolType) → type_of p ≡ Some ty → KernelDraws theory (rules.Assume p) [] (assume_outcome theory p)
 assume-drawn theory p ty typed =
     walked_by Gives none_drawn theory p ty bool_type typed NotBool (Ok (record { theory = theory; hypotheses = p ∷ []; conclusion = p }))
     (record { passing = []; supposed = image p ∷ []; conclusion = image p }) (λ inference. drawn inference [])
     (record { same_set = same_set refl; concludes = refl })
 
-pub beta-drawn : (theory : Theory) (t : NamedTerm) (ty : HolType) → type_of t ≡ Some ty → KernelDraws theory (rule_beta t) [] (beta_outcome theory t)
+pub beta-drawn : (theory : Theory) (t : NamedTerm) (ty : HolType) → type_of t ≡ Some ty → KernelDraws theory (rules.Beta t) [] (beta_outcome theory t)
 beta-drawn theory t ty typed = go (dest_trivial_redex t)
   where
     go : (found : Option NamedTerm)
@@ -138,7 +139,7 @@ alike-typed m n s t left right same =
 abbrev merged_theorem : Theory → Theorem → Theorem → NamedTerm → Theorem
 merged_theorem theory a b conclusion = record { theory = theory; hypotheses = merged a b; conclusion = conclusion }
 
-pub trans-drawn : (theory : Theory) → IsLegal theory → (a b : Theorem) → IsPremise theory a → IsPremise theory b → KernelDraws theory rule_trans (a ∷ b ∷ []) (trans_outcome theory a b)
+pub trans-drawn : (theory : Theory) → IsLegal theory → (a b : Theorem) → IsPremise theory a → IsPremise theory b → KernelDraws theory rules.Trans (a ∷ b ∷ []) (trans_outcome theory a b)
 trans-drawn theory legal a b first second = go (dest_equation a.conclusion) refl (dest_equation b.conclusion) refl
   where
     meet : (l m n r : NamedTerm) (s t : HolType) → type_of l ≡ Some s → type_of m ≡ Some s → type_of n ≡ Some t → (test : Bool)
@@ -173,7 +174,7 @@ trans-drawn theory legal a b first second = go (dest_equation a.conclusion) refl
         rw (equation-drawn a.conclusion l m e, equation-drawn b.conclusion n r f)
         (meet l m n r e.ty f.ty e.left_typed e.right_typed f.left_typed (same_term (image m) (image n)) refl (type_eq e.ty f.ty) refl)
 
-pub eq_mp-drawn : (theory : Theory) → IsLegal theory → (a b : Theorem) → IsPremise theory a → IsPremise theory b → KernelDraws theory rule_eq_mp (a ∷ b ∷ []) (eq_mp_outcome theory a b)
+pub eq_mp-drawn : (theory : Theory) → IsLegal theory → (a b : Theorem) → IsPremise theory a → IsPremise theory b → KernelDraws theory rules.EqMp (a ∷ b ∷ []) (eq_mp_outcome theory a b)
 eq_mp-drawn theory legal a b first second = go (dest_equation a.conclusion) refl
   where
     meet : (l r : NamedTerm) (s : HolType) → type_of l ≡ Some s → (is_bool : Bool)
@@ -202,7 +203,7 @@ eq_mp-drawn theory legal a b first second = go (dest_equation a.conclusion) refl
         let e = sides theory legal a.conclusion l r first.known one in
         rw e.image_is (meet l r e.ty e.left_typed (same_variable equality_name (equality_type bool_type) equality_name (equality_type e.ty)) refl (same_term (image l) (image b.conclusion)) refl)
 
-pub mk_comb-drawn : (theory : Theory) → IsLegal theory → (a b : Theorem) → IsPremise theory a → IsPremise theory b → KernelDraws theory rule_mk_comb (a ∷ b ∷ []) (mk_comb_outcome theory a b)
+pub mk_comb-drawn : (theory : Theory) → IsLegal theory → (a b : Theorem) → IsPremise theory a → IsPremise theory b → KernelDraws theory rules.MkComb (a ∷ b ∷ []) (mk_comb_outcome theory a b)
 mk_comb-drawn theory legal a b first second = go (dest_equation a.conclusion) refl (dest_equation b.conclusion) refl
   where
     typed_as : (f x : NamedTerm) (s t : HolType) → type_of f ≡ Some s → type_of x ≡ Some t → (domain codomain : HolType)
@@ -265,7 +266,7 @@ free-in_no_hypothesis name ty (h ∷ hypotheses) = rw (occurs_free-image name ty
     go true deeper = refl
     go false deeper = deeper
 
-pub abs-drawn : (theory : Theory) → IsLegal theory → (x : NamedTerm) (a : Theorem) → IsPremise theory a → KernelDraws theory (rule_abs x) (a ∷ []) (abs_outcome theory x a)
+pub abs-drawn : (theory : Theory) → IsLegal theory → (x : NamedTerm) (a : Theorem) → IsPremise theory a → KernelDraws theory (rules.Abs x) (a ∷ []) (abs_outcome theory x a)
 abs-drawn theory legal (constant name ty) a premise = tt
 abs-drawn theory legal (combination f x) a premise = tt
 abs-drawn theory legal (abstraction name ty body) a premise = tt
@@ -321,7 +322,7 @@ right_of a b = without_hypothesis a.conclusion b.hypotheses
 abbrev passed_by_both : Theorem → Theorem → List Nameless
 passed_by_both a b = map unchanged (without (image b.conclusion) (images a)) ++ (map unchanged (without (image a.conclusion) (images b)) ++ [])
 
-pub deduct_antisym-drawn : (theory : Theory) (a b : Theorem) → IsPremise theory a → KernelDraws theory rule_deduct_antisym (a ∷ b ∷ []) (deduct_antisym_outcome theory a b)
+pub deduct_antisym-drawn : (theory : Theory) (a b : Theorem) → IsPremise theory a → KernelDraws theory rules.DeductAntisym (a ∷ b ∷ []) (deduct_antisym_outcome theory a b)
 deduct_antisym-drawn theory a b first =
     concluded-drawn theory (with_hypotheses (left_of a b) (right_of a b)) (equation a.conclusion b.conclusion) (passed_by_both a b)
     (nameless_equation bool_type (image a.conclusion) (image b.conclusion)) set (image-equation a.conclusion b.conclusion bool_type first.typed)
@@ -426,14 +427,17 @@ may-replace theory ((new, old) ∷ theta) = go (is_variable old) refl (may-repla
         (list_all (λ pair. knows_nameless theory (image pair.0) (nameless_type [] (image pair.1))) theta) (keeps_types theta)
         (know_types theory theta) (know_constants theory theta) (have_instances theory theta) deeper)
 
-pub inst-drawn : (theory : Theory) (theta : List (NamedTerm × NamedTerm)) (a : Theorem) (result : Result Theorem Fault)
-    → AnswersSuch result (inst_refusal theory theta a) (IsInst theory theta a) → Infers theory (rule_inst theta) (a ∷ []) result
-inst-drawn theory theta a result answers = record {
-  drawn = changed-drawn theory (put_all theta) a (may_replace theory theta) (replacements_refusal theory theta) (all_fit (put_all theta) (a.conclusion ∷ a.hypotheses))
-      (λ none. may-replace theory theta ∙ passes (replaces_variables theta) (keeps_types theta) (know_types theory theta) (know_constants theory theta) (have_instances theory theta) none)
-      (λ may. refuses (replaces_variables theta) (keeps_types theta) (know_types theory theta) (know_constants theory theta) (have_instances theory theta) (sym (may-replace theory theta) ∙ may))
-      result answers;
-}
+pub inst-drawn : (theory : Theory) (theta : Vec (NamedTerm × NamedTerm) Global) (a : Theorem) (result : Result Theorem Fault)
+    → AnswersSuch result (inst_refusal theory theta.items a) (IsInst theory theta.items a) → Infers theory (rules.Inst theta) (a ∷ []) result
+inst-drawn theory theta a result answers =
+    let pairs = theta.items in
+    record {
+      drawn = changed-drawn theory (put_all pairs) a (may_replace theory pairs) (replacements_refusal theory pairs) (all_fit (put_all pairs) (a.conclusion ∷ a.hypotheses))
+          (λ none. may-replace theory pairs ∙ passes (replaces_variables pairs) (keeps_types pairs) (know_types theory pairs) (know_constants theory pairs) (have_instances theory pairs) none)
+          (λ may. refuses (replaces_variables pairs) (keeps_types pairs) (know_types theory pairs) (know_constants theory pairs) (have_instances theory pairs)
+          (sym (may-replace theory pairs) ∙ may))
+          result answers;
+    }
   where
     passes : (variables keep types constants instances : Bool)
         → (if not variables then Some NotVariable else
@@ -460,14 +464,17 @@ inst-drawn theory theta a result answers = record {
     refuses true false types constants instances may = cc
     refuses false keep types constants instances may = cc
 
-pub inst_type-drawn : (theory : Theory) (theta : List (HolType × HolType)) (a : Theorem) (result : Result Theorem Fault)
-    → AnswersSuch result (inst_type_refusal theory theta a) (IsInstType theory theta a) → Infers theory (rule_inst_type theta) (a ∷ []) result
-inst_type-drawn theory theta a result answers = record {
-  drawn = changed-drawn theory (instantiate_all theta) a (may_replace_types theory theta) (type_replacements_refusal theory theta) (all_fit (instantiate_all theta) (a.conclusion ∷ a.hypotheses))
-      (passes (replaces_type_variables theta) (list_all (λ pair. knows_type theory pair.0) theta))
-      (refuses (replaces_type_variables theta) (list_all (λ pair. knows_type theory pair.0) theta))
-      result answers;
-}
+pub inst_type-drawn : (theory : Theory) (theta : Vec (HolType × HolType) Global) (a : Theorem) (result : Result Theorem Fault)
+    → AnswersSuch result (inst_type_refusal theory theta.items a) (IsInstType theory theta.items a) → Infers theory (rules.InstType theta) (a ∷ []) result
+inst_type-drawn theory theta a result answers =
+    let pairs = theta.items in
+    record {
+      drawn = changed-drawn theory (instantiate_all pairs) a (may_replace_types theory pairs) (type_replacements_refusal theory pairs)
+          (all_fit (instantiate_all pairs) (a.conclusion ∷ a.hypotheses))
+          (passes (replaces_type_variables pairs) (list_all (λ pair. knows_type theory pair.0) pairs))
+          (refuses (replaces_type_variables pairs) (list_all (λ pair. knows_type theory pair.0) pairs))
+          result answers;
+    }
   where
     passes : (variables types : Bool) → (if not variables then Some NotVariable else (if not types then Some UnknownType else None)) ≡ None → (variables && types) ≡ true
     passes true true none = refl
@@ -481,8 +488,8 @@ inst_type-drawn theory theta a result answers = record {
 
 -- ---- axioms
 
-pub eta-drawn : (theory : Theory) → KernelDraws theory rule_eta_axiom [] (Ok (eta_theorem theory))
+pub eta-drawn : (theory : Theory) → KernelDraws theory rules.EtaAxiom [] (Ok (eta_theorem theory))
 eta-drawn theory = record { same_set = same_set refl; concludes = refl }
 
-pub select-drawn : (theory : Theory) → KernelDraws theory rule_select_axiom [] (Ok (select_theorem theory))
+pub select-drawn : (theory : Theory) → KernelDraws theory rules.SelectAxiom [] (Ok (select_theorem theory))
 select-drawn theory = record { same_set = same_set refl; concludes = refl }

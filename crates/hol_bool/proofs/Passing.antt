@@ -4,7 +4,7 @@ use Rattle.std.specs.Result.{IsErr}
 use Rattle.hol_model.specs.declared.fault.Fault.{Fault}
 use Rattle.hol_model.proofs.Logic.Earlier.{earlier-same}
 use Rattle.hol_journal.specs.Journal.{Journal, Recorded}
-use Rattle.hol_equal.specs.Sequents.{Continues}
+use Rattle.hol_journal.specs.Growth.{Continues}
 
 pub unchanged : (journal : Journal) (result : Result Recorded Fault) → IsErr result → Continues journal journal result
 unchanged journal (Ok made) is = cc

@@ -15,7 +15,8 @@ use Rattle.hol_model.specs.Kernel.Instantiation.{instantiate_all, replacements_r
 use Rattle.hol_model.proofs.Terms.NamedTests.{is_known-Decides}
 use Rattle.hol_journal.specs.Journal.{Journal, Recorded}
 use Rattle.hol_prelude.specs.Prelude.{prelude_theorems, shown}
-use Rattle.hol_equal.specs.Sequents.{Shows, Continues, instance_of}
+use Rattle.hol_journal.specs.Growth.{Continues}
+use Rattle.hol_equal.specs.Sequents.{Shows, instance_of}
 use Rattle.hol_prelude.specs.HasLogic.{HasLogic}
 use Rattle.hol_equal.specs.Formulas.{IsFormula}
 use Rattle.hol_equal.specs.Room.{FitsIf}

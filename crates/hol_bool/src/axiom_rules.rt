@@ -5,7 +5,7 @@ ghost use Rattle.hol_model.specs.Terms.NamedTerm.{NamedTerm};
 ghost use Rattle.hol_bool.specs.Axioms.{IsAxiom, eta_axiom, select_axiom};
 ghost use Rattle.hol_prelude.specs.HasLogic.{HasLogic};
 ghost use Rattle.hol_prelude.specs.Prelude.{prelude_theorems};
-ghost use Rattle.hol_equal.specs.Sequents.{Continues};
+ghost use Rattle.hol_journal.specs.Growth.{Continues};
 
 use hol_equal::{conclusion_of, named};
 use hol_journal::{Rec, Recorder};

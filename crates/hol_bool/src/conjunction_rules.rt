@@ -8,11 +8,12 @@ ghost use Rattle.hol_model.specs.Logic.Logic as nameless;
 ghost use Rattle.hol_model.specs.Logic.NamedLogic.{true_term, is_true, conjunction};
 ghost use Rattle.hol_model.specs.Logic.Derivable.{nameless_equation};
 ghost use Rattle.hol_model.specs.Derived.DerivedRules.{AnswersStated, terms_of_theorem, conj_outcome, conjunct1_outcome, conjunct2_outcome};
-ghost use Rattle.hol_model.specs.Derived.InferenceRules.{rule_conj, rule_conjunct1, rule_conjunct2};
+ghost use Rattle.hol_model.specs.declared.rule.Rule.TheVariants as rules;
 ghost use Rattle.hol_journal.specs.Journal.{IsMade, theorem_in};
 ghost use Rattle.hol_prelude.specs.HasLogic.{HasLogic};
 ghost use Rattle.hol_equal.specs.Room.{Room, FitsIf};
-ghost use Rattle.hol_equal.specs.Sequents.{Shows, DerivesIf, Continues};
+ghost use Rattle.hol_journal.specs.Growth.{Continues};
+ghost use Rattle.hol_equal.specs.Sequents.{Shows, DerivesIf};
 ghost use Rattle.hol_equal.specs.Inferred.{Infers};
 
 use crate::formula_terms::{connect, equivalence, for_p_q, is_named};
@@ -31,7 +32,7 @@ pub fn conjunct1(recorder: &mut Recorder, logic: &Bool, premise: &Rec) -> Result
     requires premise { IsMade recorder.old premise.now }
     ensures continues { Continues recorder.old recorder.new result }
     ensures outcome { AnswersStated (theorem_in result) (terms_of_theorem premise.now.theorem) (conjunct1_outcome premise.now.theorem) }
-    ensures inferred { Infers recorder.old.theory rule_conjunct1 (premise.now.theorem ∷ []) (theorem_in result) }
+    ensures inferred { Infers recorder.old.theory rules.Conjunct1 (premise.now.theorem ∷ []) (theorem_in result) }
 {
     let alloc = recorder.alloc();
     let Some(sides) = sides_of(recorder, logic, premise, "/\\") else {
@@ -48,7 +49,7 @@ pub fn conjunct2(recorder: &mut Recorder, logic: &Bool, premise: &Rec) -> Result
     requires premise { IsMade recorder.old premise.now }
     ensures continues { Continues recorder.old recorder.new result }
     ensures outcome { AnswersStated (theorem_in result) (terms_of_theorem premise.now.theorem) (conjunct2_outcome premise.now.theorem) }
-    ensures inferred { Infers recorder.old.theory rule_conjunct2 (premise.now.theorem ∷ []) (theorem_in result) }
+    ensures inferred { Infers recorder.old.theory rules.Conjunct2 (premise.now.theorem ∷ []) (theorem_in result) }
 {
     let alloc = recorder.alloc();
     let Some(sides) = sides_of(recorder, logic, premise, "/\\") else {
@@ -191,7 +192,7 @@ pub fn conj(recorder: &mut Recorder, logic: &Bool, first: &Rec, second: &Rec) ->
     requires second { IsMade recorder.old second.now }
     ensures continues { Continues recorder.old recorder.new result }
     ensures outcome { AnswersStated (theorem_in result) (terms_of_theorem first.now.theorem ++ terms_of_theorem second.now.theorem) (conj_outcome first.now.theorem second.now.theorem) }
-    ensures inferred { Infers recorder.old.theory rule_conj (first.now.theorem ∷ second.now.theorem ∷ []) (theorem_in result) }
+    ensures inferred { Infers recorder.old.theory rules.Conj (first.now.theorem ∷ second.now.theorem ∷ []) (theorem_in result) }
 {
     conj_in_room(recorder, logic, first, second)
 }

@@ -7,7 +7,7 @@ ghost use Rattle.hol_model.specs.Logic.Logic as nameless;
 ghost use Rattle.hol_model.specs.Logic.NamedLogic.{disjunction};
 ghost use Rattle.hol_model.specs.Logic.Derivable.{without, nameless_equation};
 ghost use Rattle.hol_model.specs.Derived.DerivedRules.{AnswersStated, terms_of_theorem, disj1_outcome, disj2_outcome, disj_cases_outcome};
-ghost use Rattle.hol_model.specs.Derived.InferenceRules.{rule_disj1, rule_disj2, rule_disj_cases};
+ghost use Rattle.hol_model.specs.declared.rule.Rule.TheVariants as rules;
 ghost use Rattle.hol_journal.specs.Journal.{IsMade, theorem_in};
 ghost use Rattle.hol_prelude.specs.Prelude.{prelude_theorems};
 ghost use Rattle.hol_prelude.specs.HasLogic.{HasLogic};
@@ -15,7 +15,8 @@ ghost use Rattle.hol_equal.specs.Formulas.{IsFormula};
 ghost use Rattle.hol_equal.specs.Room.{Room, FitsIf, MakesIf};
 ghost use Rattle.hol_bool.specs.PreludeInstances.{LeadsTo, at_p_q};
 ghost use Rattle.hol_bool.specs.Disjunctions.{LeavesRoomIf, MakesDisjunction, other_case, both_cases};
-ghost use Rattle.hol_equal.specs.Sequents.{Shows, DerivesIf, Continues};
+ghost use Rattle.hol_journal.specs.Growth.{Continues};
+ghost use Rattle.hol_equal.specs.Sequents.{Shows, DerivesIf};
 ghost use Rattle.hol_equal.specs.Inferred.{Infers};
 
 use crate::formula_terms::{Sides, connect, for_p_q, for_p_q_r};
@@ -64,7 +65,7 @@ pub fn disj1(recorder: &mut Recorder, logic: &Bool, q: &Term, premise: &Rec) -> 
     requires premise { IsMade recorder.old premise.now }
     ensures continues { Continues recorder.old recorder.new result }
     ensures outcome { AnswersStated (theorem_in result) (image q.now ∷ terms_of_theorem premise.now.theorem) (disj1_outcome recorder.old.theory q.now premise.now.theorem) }
-    ensures inferred { Infers recorder.old.theory (rule_disj1 q.now) (premise.now.theorem ∷ []) (theorem_in result) }
+    ensures inferred { Infers recorder.old.theory (rules.Disj1 q.now) (premise.now.theorem ∷ []) (theorem_in result) }
 {
     let _type = q.ty();
     pass_formula(recorder, q)?;
@@ -80,7 +81,7 @@ pub fn disj2(recorder: &mut Recorder, logic: &Bool, p: &Term, premise: &Rec) -> 
     requires premise { IsMade recorder.old premise.now }
     ensures continues { Continues recorder.old recorder.new result }
     ensures outcome { AnswersStated (theorem_in result) (image p.now ∷ terms_of_theorem premise.now.theorem) (disj2_outcome recorder.old.theory p.now premise.now.theorem) }
-    ensures inferred { Infers recorder.old.theory (rule_disj2 p.now) (premise.now.theorem ∷ []) (theorem_in result) }
+    ensures inferred { Infers recorder.old.theory (rules.Disj2 p.now) (premise.now.theorem ∷ []) (theorem_in result) }
 {
     let _type = p.ty();
     pass_formula(recorder, p)?;
@@ -208,7 +209,7 @@ pub fn disj_cases(
     ensures outcome { AnswersStated (theorem_in result) (terms_of_theorem theorem.now.theorem
         ++ (terms_of_theorem first.now.theorem ++ terms_of_theorem second.now.theorem))
         (disj_cases_outcome theorem.now.theorem first.now.theorem second.now.theorem) }
-    ensures inferred { Infers recorder.old.theory rule_disj_cases (theorem.now.theorem ∷ first.now.theorem ∷ second.now.theorem ∷ []) (theorem_in result) }
+    ensures inferred { Infers recorder.old.theory rules.DisjCases (theorem.now.theorem ∷ first.now.theorem ∷ second.now.theorem ∷ []) (theorem_in result) }
 {
     let Some(sides) = sides_of(recorder, logic, theorem, "\\/") else {
         return Err(Fault::BadShape);

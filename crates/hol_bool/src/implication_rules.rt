@@ -7,12 +7,13 @@ ghost use Rattle.hol_model.specs.Logic.NamedLogic.{implication};
 ghost use Rattle.hol_model.specs.Logic.Logic.{implies_name};
 ghost use Rattle.hol_model.specs.Logic.Derivable.{without, nameless_equation};
 ghost use Rattle.hol_model.specs.Derived.DerivedRules.{AnswersStated, terms_of_theorem, mp_outcome, disch_outcome, undisch_outcome};
-ghost use Rattle.hol_model.specs.Derived.InferenceRules.{rule_disch, rule_undisch, rule_mp};
+ghost use Rattle.hol_model.specs.declared.rule.Rule.TheVariants as rules;
 ghost use Rattle.hol_journal.specs.Journal.{IsMade, theorem_in};
 ghost use Rattle.hol_prelude.specs.HasLogic.{HasLogic};
 ghost use Rattle.hol_equal.specs.Formulas.{IsFormula, AreSides};
 ghost use Rattle.hol_equal.specs.Room.{Room, FitsIf};
-ghost use Rattle.hol_equal.specs.Sequents.{Shows, DerivesIf, Continues};
+ghost use Rattle.hol_journal.specs.Growth.{Continues};
+ghost use Rattle.hol_equal.specs.Sequents.{Shows, DerivesIf};
 ghost use Rattle.hol_equal.specs.Inferred.{Infers};
 
 use crate::conjunction_rules::conj_in_room;
@@ -64,7 +65,7 @@ pub fn mp(recorder: &mut Recorder, logic: &Bool, first: &Rec, second: &Rec) -> R
     requires second { IsMade recorder.old second.now }
     ensures continues { Continues recorder.old recorder.new result }
     ensures outcome { AnswersStated (theorem_in result) (terms_of_theorem first.now.theorem ++ terms_of_theorem second.now.theorem) (mp_outcome first.now.theorem second.now.theorem) }
-    ensures inferred { Infers recorder.old.theory rule_mp (first.now.theorem ∷ second.now.theorem ∷ []) (theorem_in result) }
+    ensures inferred { Infers recorder.old.theory rules.Mp (first.now.theorem ∷ second.now.theorem ∷ []) (theorem_in result) }
 {
     let Some(sides) = sides_of(recorder, logic, first, "==>") else {
         return Err(Fault::BadShape);
@@ -146,7 +147,7 @@ pub fn disch(recorder: &mut Recorder, logic: &Bool, p: &Term, premise: &Rec) -> 
     requires premise { IsMade recorder.old premise.now }
     ensures continues { Continues recorder.old recorder.new result }
     ensures outcome { AnswersStated (theorem_in result) (image p.now ∷ terms_of_theorem premise.now.theorem) (disch_outcome recorder.old.theory p.now premise.now.theorem) }
-    ensures inferred { Infers recorder.old.theory (rule_disch p.now) (premise.now.theorem ∷ []) (theorem_in result) }
+    ensures inferred { Infers recorder.old.theory (rules.Disch p.now) (premise.now.theorem ∷ []) (theorem_in result) }
 {
     let _type = p.ty();
     pass_formula(recorder, p)?;
@@ -185,7 +186,7 @@ pub fn undisch(recorder: &mut Recorder, logic: &Bool, premise: &Rec) -> Result<R
     requires premise { IsMade recorder.old premise.now }
     ensures continues { Continues recorder.old recorder.new result }
     ensures outcome { AnswersStated (theorem_in result) (terms_of_theorem premise.now.theorem) (undisch_outcome premise.now.theorem) }
-    ensures inferred { Infers recorder.old.theory rule_undisch (premise.now.theorem ∷ []) (theorem_in result) }
+    ensures inferred { Infers recorder.old.theory rules.Undisch (premise.now.theorem ∷ []) (theorem_in result) }
 {
     let Some(sides) = sides_of(recorder, logic, premise, "==>") else {
         return Err(Fault::BadShape);

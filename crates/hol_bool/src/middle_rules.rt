@@ -4,7 +4,7 @@ ghost use Rattle.hol_model.specs.Terms.Nameless.{image};
 ghost use Rattle.hol_model.specs.Derived.DerivedRules.{AnswersStated, excluded_middle_outcome};
 ghost use Rattle.hol_journal.specs.Journal.{theorem_in};
 ghost use Rattle.hol_prelude.specs.HasLogic.{HasLogic};
-ghost use Rattle.hol_equal.specs.Sequents.{Continues};
+ghost use Rattle.hol_journal.specs.Growth.{Continues};
 
 use crate::formula_terms::{connect, for_p, negate};
 use crate::prelude_rules::{instance_of_theorem, pass_formula};

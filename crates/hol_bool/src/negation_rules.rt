@@ -2,11 +2,11 @@
 ghost use Rattle.std.specs.Prelude.{◌∷◌, []};
 ghost use Rattle.hol_model.specs.Terms.Nameless.{image};
 ghost use Rattle.hol_model.specs.Derived.DerivedRules.{AnswersStated, terms_of_theorem, not_intro_outcome, not_elim_outcome, contr_outcome};
-ghost use Rattle.hol_model.specs.Derived.InferenceRules.{rule_contr, rule_not_intro, rule_not_elim};
+ghost use Rattle.hol_model.specs.declared.rule.Rule.TheVariants as rules;
 ghost use Rattle.hol_journal.specs.Journal.{IsMade, theorem_in};
 ghost use Rattle.hol_prelude.specs.HasLogic.{HasLogic};
 ghost use Rattle.hol_equal.specs.Formulas.{IsFormula};
-ghost use Rattle.hol_equal.specs.Sequents.{Continues};
+ghost use Rattle.hol_journal.specs.Growth.{Continues};
 ghost use Rattle.hol_equal.specs.Inferred.{Infers};
 
 use crate::formula_terms::{connect, falsity, for_p, is_named, negate};
@@ -25,7 +25,7 @@ pub fn not_intro(recorder: &mut Recorder, logic: &Bool, premise: &Rec) -> Result
     requires premise { IsMade recorder.old premise.now }
     ensures continues { Continues recorder.old recorder.new result }
     ensures outcome { AnswersStated (theorem_in result) (terms_of_theorem premise.now.theorem) (not_intro_outcome premise.now.theorem) }
-    ensures inferred { Infers recorder.old.theory rule_not_intro (premise.now.theorem ∷ []) (theorem_in result) }
+    ensures inferred { Infers recorder.old.theory rules.NotIntro (premise.now.theorem ∷ []) (theorem_in result) }
 {
     let alloc = recorder.alloc();
     let Some(sides) = sides_of(recorder, logic, premise, "==>") else {
@@ -47,7 +47,7 @@ pub fn not_elim(recorder: &mut Recorder, logic: &Bool, premise: &Rec) -> Result<
     requires premise { IsMade recorder.old premise.now }
     ensures continues { Continues recorder.old recorder.new result }
     ensures outcome { AnswersStated (theorem_in result) (terms_of_theorem premise.now.theorem) (not_elim_outcome premise.now.theorem) }
-    ensures inferred { Infers recorder.old.theory rule_not_elim (premise.now.theorem ∷ []) (theorem_in result) }
+    ensures inferred { Infers recorder.old.theory rules.NotElim (premise.now.theorem ∷ []) (theorem_in result) }
 {
     let alloc = recorder.alloc();
     let Some(part) = negated_of(recorder, logic, premise) else {
@@ -68,7 +68,7 @@ pub fn contr(recorder: &mut Recorder, logic: &Bool, p: &Term, premise: &Rec) -> 
     requires premise { IsMade recorder.old premise.now }
     ensures continues { Continues recorder.old recorder.new result }
     ensures outcome { AnswersStated (theorem_in result) (image p.now ∷ terms_of_theorem premise.now.theorem) (contr_outcome recorder.old.theory p.now premise.now.theorem) }
-    ensures inferred { Infers recorder.old.theory (rule_contr p.now) (premise.now.theorem ∷ []) (theorem_in result) }
+    ensures inferred { Infers recorder.old.theory (rules.Contr p.now) (premise.now.theorem ∷ []) (theorem_in result) }
 {
     let _type = p.ty();
     let conclusion = conclusion_of(recorder, premise);
@@ -93,7 +93,7 @@ pub fn contr_known(
     requires premise { IsMade recorder.old premise.now }
     ensures continues { Continues recorder.old recorder.new result }
     ensures outcome { AnswersStated (theorem_in result) (image p.now ∷ terms_of_theorem premise.now.theorem) (contr_outcome recorder.old.theory p.now premise.now.theorem) }
-    ensures inferred { Infers recorder.old.theory (rule_contr p.now) (premise.now.theorem ∷ []) (theorem_in result) }
+    ensures inferred { Infers recorder.old.theory (rules.Contr p.now) (premise.now.theorem ∷ []) (theorem_in result) }
 {
     let alloc = recorder.alloc();
     let _type = p.ty();

@@ -12,7 +12,8 @@ ghost use Rattle.hol_prelude.specs.Prelude.{prelude_theorems};
 ghost use Rattle.hol_prelude.specs.HasLogic.{HasLogic};
 ghost use Rattle.hol_equal.specs.Formulas.{IsFormula, AreSides, IsNegated, IsPassed, IsRefused};
 ghost use Rattle.hol_equal.specs.Room.{Room};
-ghost use Rattle.hol_equal.specs.Sequents.{DerivesIf, Continues};
+ghost use Rattle.hol_journal.specs.Growth.{Continues};
+ghost use Rattle.hol_equal.specs.Sequents.{DerivesIf};
 ghost use Rattle.hol_bool.specs.PreludeInstances.{LeadsTo, Concludes, Says, TheoremDerives};
 
 use crate::formula_terms::{Sides, connected_sides, negated_part};

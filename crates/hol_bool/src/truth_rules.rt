@@ -1,10 +1,10 @@
 // Rules of truth.
 ghost use Rattle.std.specs.Prelude.{[], ◌∷◌};
 ghost use Rattle.hol_model.specs.Derived.DerivedRules.{AnswersStated, terms_of_theorem, eqt_intro_outcome, eqt_elim_outcome};
-ghost use Rattle.hol_model.specs.Derived.InferenceRules.{rule_eqt_intro, rule_eqt_elim};
+ghost use Rattle.hol_model.specs.declared.rule.Rule.TheVariants as rules;
 ghost use Rattle.hol_journal.specs.Journal.{IsMade, theorem_in};
 ghost use Rattle.hol_prelude.specs.HasLogic.{HasLogic};
-ghost use Rattle.hol_equal.specs.Sequents.{Continues};
+ghost use Rattle.hol_journal.specs.Growth.{Continues};
 ghost use Rattle.hol_equal.specs.Inferred.{Infers};
 
 use crate::formula_terms::{equivalence, for_p, is_named, truth};
@@ -23,7 +23,7 @@ pub fn eqt_intro(recorder: &mut Recorder, logic: &Bool, premise: &Rec) -> Result
     requires premise { IsMade recorder.old premise.now }
     ensures continues { Continues recorder.old recorder.new result }
     ensures outcome { AnswersStated (theorem_in result) (terms_of_theorem premise.now.theorem) (eqt_intro_outcome premise.now.theorem) }
-    ensures inferred { Infers recorder.old.theory rule_eqt_intro (premise.now.theorem ∷ []) (theorem_in result) }
+    ensures inferred { Infers recorder.old.theory rules.EqtIntro (premise.now.theorem ∷ []) (theorem_in result) }
 {
     let alloc = recorder.alloc();
     let conclusion = conclusion_of(recorder, premise);
@@ -40,7 +40,7 @@ pub fn eqt_elim(recorder: &mut Recorder, logic: &Bool, premise: &Rec) -> Result<
     requires premise { IsMade recorder.old premise.now }
     ensures continues { Continues recorder.old recorder.new result }
     ensures outcome { AnswersStated (theorem_in result) (terms_of_theorem premise.now.theorem) (eqt_elim_outcome premise.now.theorem) }
-    ensures inferred { Infers recorder.old.theory rule_eqt_elim (premise.now.theorem ∷ []) (theorem_in result) }
+    ensures inferred { Infers recorder.old.theory rules.EqtElim (premise.now.theorem ∷ []) (theorem_in result) }
 {
     let alloc = recorder.alloc();
     let conclusion = conclusion_of(recorder, premise);

@@ -153,6 +153,10 @@ put_by_insert {Node} e node earlier now is itself = record { put = go (list_any 
     go true any is = inl is
     go false any is = inr (is, not_there e node earlier itself any)
 
+pub stored_node : {Node : Type 0} (e : Node → Node → Bool) → ((a b : Node) → e a b ≡ true → a ≡ b) → (node : Node) (now : List Node) (number : ℕ)
+    → (stored : Node) × (slice_get now number ≡ Some stored) × (e node stored ≡ true) → slice_get now number ≡ Some node
+stored_node e same node now number found = found.1 ∙ ap Some (sym (same node found.0 found.2))
+
 -- values with one number each, and a new one
 pub distinct-push : {Value : Type 0} (values : List Value) (new : Value) → HaveOneNumber values → ((place : ℕ) → ¬ (slice_get values place ≡ Some new)) → HaveOneNumber (values ++ new ∷ [])
 distinct-push values new distinct absent i j value here there =

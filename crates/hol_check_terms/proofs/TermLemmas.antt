@@ -1,5 +1,5 @@
 -- Terms with one number each.
-use Rattle.std.proofs.Common.{◌≡◌, ℕ, ◌<◌, ◌≤◌, List, [], ◌∷◌, ◌++◌, length, get_or, true, refl, sym, ◌∙◌, ap, subst, inl, inr, Some, None, Result, IfOk, Ok, Err, arith}
+use Rattle.std.proofs.Common.{◌≡◌, ℕ, ◌<◌, ◌≤◌, List, [], ◌∷◌, ◌++◌, length, get_or, true, refl, sym, ◌∙◌, ap, subst, inl, inr, Some, None, arith}
 use Rattle.std.specs.Prelude.{slice_get, nat_eq}
 use Rattle.std.proofs.lemmas.Bool.{eqb-true, eq-eqb}
 use Rattle.std.proofs.lemmas.Option.{slice_get-get_or, get_or_from_slice_get}
@@ -154,18 +154,11 @@ put-longer table nodes now node put =
           (record { added = term_of_node table (terms_of table nodes) node ∷ []; is_added = terms_of-push table nodes node })
     ]
 
-put-number : (table : TypeTable) (nodes now : List TermNode) (node : TermNode) → AreTermNodes table now → TermStandsAfterParts table (length (terms_of table nodes)) node → IsPut node nodes now
+pub put-number : (table : TypeTable) (nodes now : List TermNode) (node : TermNode) → AreTermNodes table now → TermStandsAfterParts table (length (terms_of table nodes)) node → IsPut node nodes now
     → (number : ℕ) → slice_get now number ≡ Some node → slice_get (terms_of table now) number ≡ Some (term_of_node table (terms_of table nodes) node)
 put-number table nodes now node are placed put number there =
     let longer = put-longer table nodes now node put in
     terms_of-at table now are number node there ∙ ap Some (rw longer.is_added (term-stable table (terms_of table nodes) longer.added node.shape placed))
-
-pub put-result : {E : Type 0} (table : TypeTable) (nodes now : List TermNode) (node : TermNode) → AreTermNodes table now → TermStandsAfterParts table (length (terms_of table nodes)) node →
-    IsPut node nodes now
-    → (result : Result ℕ E) → IfOk result (λ number. slice_get now number ≡ Some node) →
-    IfOk result (λ number. slice_get (terms_of table now) number ≡ Some (term_of_node table (terms_of table nodes) node))
-put-result table nodes now node are placed put (Ok number) there = put-number table nodes now node are placed put number there
-put-result table nodes now node are placed put (Err fault) there = tt
 
 pub no_node : (table : TypeTable) (nodes : List TermNode) (number : ℕ) → number < length (terms_of table nodes) → slice_get nodes number ≡ None → ⊥
 no_node table nodes number within none =

@@ -1,5 +1,5 @@
 -- Types with one number each.
-use Rattle.std.proofs.Common.{◌≡◌, ℕ, ◌<◌, ◌≤◌, List, [], ◌∷◌, ◌++◌, length, get_or, refl, sym, ◌∙◌, ap, subst, inl, inr, Some, None, Result, IfOk, Ok, Err, arith, length-append}
+use Rattle.std.proofs.Common.{◌≡◌, ℕ, ◌<◌, ◌≤◌, List, [], ◌∷◌, ◌++◌, length, get_or, refl, sym, ◌∙◌, ap, subst, inl, inr, Some, None, arith, length-append}
 use Rattle.std.specs.Prelude.{slice_get}
 use Rattle.std.proofs.lemmas.Option.{slice_get-get_or, get_or_from_slice_get}
 use Rattle.hol_model.specs.Terms.HolType.{HolType, type_variable, bool_type, declared_type, type_nodes}
@@ -140,13 +140,6 @@ pub put-number : (names : List (List ℕ)) (nodes now : List TypeNode) (node : T
 put-number names nodes now node are placed put number there =
     let longer = put-longer names nodes now node put in
     types_of-at names now are number node there ∙ ap Some (rw longer.is_added (type-stable names (types_of names nodes) longer.added node.shape placed))
-
-pub put-result : {E : Type 0} (names : List (List ℕ)) (nodes now : List TypeNode) (node : TypeNode) → AreTypeNodes names now → StandsAfterParts names (length (types_of names nodes)) node →
-    IsPut node nodes now
-    → (result : Result ℕ E) → IfOk result (λ number. slice_get now number ≡ Some node) →
-    IfOk result (λ number. slice_get (types_of names now) number ≡ Some (type_of_node names (types_of names nodes) node))
-put-result names nodes now node are placed put (Ok number) there = put-number names nodes now node are placed put number there
-put-result names nodes now node are placed put (Err fault) there = tt
 
 -- the node of a number
 

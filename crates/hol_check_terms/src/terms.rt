@@ -6,7 +6,7 @@ ghost use Rattle.hol_model.specs.Terms.Measures.{nameless_height, nameless_nodes
 ghost use Rattle.hol_model.specs.Logic.Checks.{has_no_free};
 ghost use Rattle.hol_model.specs.declared.fault.Fault.TheVariants.{Memory, TooLarge};
 ghost use Rattle.hol_check_terms.specs.Growth.{IsLonger};
-ghost use Rattle.hol_check_terms.specs.Table.{IsPut, HaveOneNumber};
+ghost use Rattle.hol_check_terms.specs.Table.{HaveOneNumber};
 ghost use Rattle.hol_check_terms.specs.Loose.{binders_needed};
 ghost use Rattle.hol_check_terms.specs.Typed.{IsTyped, IsTypedUnderSome};
 ghost use Rattle.hol_check_terms.specs.Types.{type_of_shape, PartsStandBefore};
@@ -40,16 +40,6 @@ pub struct TermNode {
     pub nodes: u32,
     pub needed: u32,
     pub no_free: bool,
-}
-
-// The number of a node, which is put at the end if it is new.
-fn number_of_node(nodes: &mut IndexSet<TermNode>, node: TermNode) -> Result<usize, Fault>
-    ensures number { IfOk result (λ number. slice_get nodes.new.keys number ≡ Some node) }
-    ensures put { IsPut node nodes.old.keys nodes.new.keys }
-    ensures refused { IfErr result (λ fault. fault ≡ Memory) }
-{
-    let (number, _) = nodes.insert_full(node)?;
-    Ok(number)
 }
 
 /// Terms in the order in which they came, each once, with the names and types in them. A term's number is its place.
@@ -119,7 +109,8 @@ impl Terms {
         ensures grows { IsGrown self.old self.new }
     {
         self.types.have_one_number();
-        number_of_node(&mut self.nodes, node)
+        let (number, _) = self.nodes.insert_full(node)?;
+        Ok(number)
     }
 
     /// How a term is built.

@@ -1,6 +1,6 @@
 // Types, each with one number.
 ghost use Rattle.std.specs.Prelude.{◌≡◌, ◌⊎◌, ◌<◌, ◌≤◌, ℕ, List, [], Some, slice_get, length, IfOk, IfErr};
-ghost use Rattle.hol_check_terms.specs.Table.{IsPut, HaveOneNumber};
+ghost use Rattle.hol_check_terms.specs.Table.{HaveOneNumber};
 ghost use Rattle.std.specs.List.{slice_index_or};
 ghost use Rattle.std.specs.Str.{bytes_eq};
 ghost use Rattle.hol_model.specs.Terms.HolType.{type_variable, bool_type, function_type, declared_type, type_nodes, type_eq};
@@ -28,16 +28,6 @@ pub enum TypeShape {
 pub struct TypeNode {
     pub shape: TypeShape,
     pub count: u32,
-}
-
-// The number of a node, which is put at the end if it is new.
-fn number_of_node(nodes: &mut IndexSet<TypeNode>, node: TypeNode) -> Result<usize, Fault>
-    ensures number { IfOk result (λ number. slice_get nodes.new.keys number ≡ Some node) }
-    ensures put { IsPut node nodes.old.keys nodes.new.keys }
-    ensures refused { IfErr result (λ fault. fault ≡ Memory) }
-{
-    let (number, _) = nodes.insert_full(node)?;
-    Ok(number)
 }
 
 /// Types in the order in which they came, each once, with the names in them. A type's number is its place.
@@ -86,7 +76,8 @@ impl Types {
         ensures grows { IsLonger self.old.types self.new.types }
     {
         self.names.have_one_number();
-        number_of_node(&mut self.nodes, node)
+        let (number, _) = self.nodes.insert_full(node)?;
+        Ok(number)
     }
 
     /// How a type is built.

@@ -1,15 +1,11 @@
 -- What holds of a library after calls that make theorems.
-use Rattle.std.proofs.Common.{◌≡◌, [], refl, sym, ◌∙◌, Result, Ok, Err, IfOk, OnErr, append-nil}
+use Rattle.std.proofs.Common.{◌≡◌, [], refl, sym, ◌∙◌, Result, Ok, Err, IfOk, append-nil}
 use Rattle.hol_model.specs.declared.fault.Fault.{Fault}
-use Rattle.hol_model.specs.Kernel.Outcome.{Answers}
-use Rattle.hol_model.specs.Kernel.Theorem.{Theorem}
 use Rattle.hol_model.proofs.Logic.Earlier.{earlier-same}
-use Rattle.hol_journal.specs.Steps.{Step}
-use Rattle.hol_journal.specs.Journal.{Journal, Recorded, IsMade, IsRecorded, theorem_in}
-use Rattle.hol_journal.specs.Growth.{IsGrown}
+use Rattle.hol_journal.specs.Journal.{Journal, Recorded, IsMade}
+use Rattle.hol_journal.specs.Growth.{IsGrown, Continues, IsHeld}
 use Rattle.hol_journal.proofs.GrowthLemmas.{journals-grow}
-use Rattle.hol_equal.specs.Sequents.{Continues, IsHeld}
-use Rattle.hol_equal.proofs.StepLemmas.{StandsOn, continues}
+use Rattle.hol_equal.proofs.StepLemmas.{continues}
 use Rattle.hol_theorem_library.specs.Library.{IsLibrary, IsContinued}
 use Rattle.hol_theorem_library.specs.declared.library.Library.{Library}
 use Rattle.hol_theorem_library.proofs.Continuing.{libraries-continue}
@@ -34,13 +30,6 @@ makes library recorder result is grown theory made =
 pub continued-makes : (library : Library) (recorder : Journal) (result : Result Recorded Fault) → IsLibrary library → Continues library.recorder recorder result
     → Makes library (with_recorder library recorder) result
 continued-makes library recorder result is continues = makes library recorder result is continues.grown continues.theory (held-made recorder result continues.held)
-
--- after a rule of the kernel
-pub recorded-makes : (library : Library) (recorder : Journal) (result : Result Recorded Fault) (step : Step) (outcome : Result Theorem Fault) → StandsOn library.recorder.theory outcome
-    → IsLibrary library → Answers (theorem_in result) outcome → IfOk result (IsRecorded library.recorder recorder step) → OnErr result (recorder ≡ library.recorder)
-    → Makes library (with_recorder library recorder) result
-recorded-makes library recorder result step outcome stands is answers recorded kept =
-    continued-makes library recorder result is (continues result library.recorder recorder step outcome stands answers recorded kept)
 
 -- after no call
 pub makes_nothing : (library : Library) (fault : Fault) → IsLibrary library → Makes library library (Err fault)

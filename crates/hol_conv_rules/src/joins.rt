@@ -13,7 +13,7 @@ ghost use Rattle.hol_conv_rules.specs.Makes.{Makes, Joins, Meets, IsRightSide};
 use hol_alpha::aconv;
 use hol_equal::conclusion_of;
 use hol_equal::equality::equation_parts;
-use hol_journal::Rec;
+use hol_journal::{Inference, Rec};
 use hol_model::Fault;
 use hol_terms::Term;
 use hol_theorem_library::Library;
@@ -25,7 +25,7 @@ pub fn refl_known(library: &mut Library, term: &Term) -> Result<Rec, Fault>
     ensures makes { Makes library.old library.new result }
     ensures joins { Joins (refl_outcome library.old.recorder.theory term.now) (theorem_in result) }
 {
-    library.recorder.refl_known(term)
+    library.recorder.infer_known(Inference::Refl(term))
 }
 
 /// TRANS: from `a = b` and `b = c`, `a = c`, whose middle terms are known to meet, so that they are not compared. Refused as the
@@ -40,7 +40,7 @@ pub fn trans_known(library: &mut Library, first: &Rec, second: &Rec) -> Result<R
 {
     let _first = conclusion_of(&library.recorder, first);
     let _second = conclusion_of(&library.recorder, second);
-    library.recorder.trans_known(first, second)
+    library.recorder.infer_known(Inference::Trans(first, second))
 }
 
 /// MK_COMB: from `f = g` and `x = y`, `f x = g y`. Refused as the kernel's rule.
@@ -51,7 +51,7 @@ pub fn mk_comb(library: &mut Library, first: &Rec, second: &Rec) -> Result<Rec, 
     ensures makes { Makes library.old library.new result }
     ensures joins { Joins (of_parts library.old.recorder.theory (Ok first.now.theorem) (Ok second.now.theorem)) (theorem_in result) }
 {
-    library.recorder.mk_comb(first, second)
+    library.recorder.infer(Inference::MkComb(first, second))
 }
 
 /// AP_TERM: from `x = y`, `f x = f y`, by REFL and MK_COMB. Refused as these, in this order.
@@ -96,7 +96,7 @@ pub fn abs(library: &mut Library, binder: &Term, body: &Rec) -> Result<Rec, Faul
     ensures makes { Makes library.old library.new result }
     ensures joins { (name : List ℕ) (ty : HolType) → binder.now ≡ variable name ty → Joins (of_body library.old.recorder.theory name ty (Ok body.now.theorem)) (theorem_in result) }
 {
-    match library.recorder.abs(binder, body) {
+    match library.recorder.infer(Inference::Abs(binder, body)) {
         Ok(made) => Ok(made),
         Err(fault) => Err(refusal(fault)),
     }

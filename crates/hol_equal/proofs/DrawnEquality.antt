@@ -14,7 +14,7 @@ use Rattle.hol_model.specs.Kernel.Outcome.{given as stated_given, refused}
 use Rattle.hol_model.specs.Kernel.Rules.{dest_equation, first_unknown}
 use Rattle.hol_model.specs.Derived.DerivedRules.{Conclusion, images, is_among, stated, stated_with_left, beta_conv_outcome, sym_outcome}
 use Rattle.hol_model.specs.Derived.DerivedRules.{add_assum_outcome, prove_hyp_outcome, eqt_intro_outcome, conj_outcome}
-use Rattle.hol_model.specs.Derived.InferenceRules.{rule_sym, rule_beta_conv, rule_add_assum, rule_prove_hyp, rule_eqt_intro, rule_conj}
+use Rattle.hol_model.specs.declared.rule.Rule.TheVariants as rules
 use Rattle.hol_model.specs.Logic.NamedLogic as named
 use Rattle.hol_model.specs.Logic.NamelessLogic as nameless
 use Rattle.hol_model.specs.Derived.Inference.{unchanged, require, is_known_term, given, conclude, all, drawn}
@@ -69,7 +69,7 @@ equation_of ty left right = record { ty = ty; left = left; right = right }
 pub equation-drawn : (term left right : NamedTerm) (e : IsEquation term left right) → nameless.dest_equation (image term) ≡ Some (equation_of e.ty (image left) (image right))
 equation-drawn term left right e = ap nameless.dest_equation e.image_is ∙ rw (same_variable-self equality_name (equality_type e.ty)) refl
 
-pub drawn-sym : (theory : Theory) → IsLegal theory → (a : Theorem) → IsPremise theory a → Draws theory rule_sym (a ∷ []) (sym_outcome a)
+pub drawn-sym : (theory : Theory) → IsLegal theory → (a : Theorem) → IsPremise theory a → Draws theory rules.Sym (a ∷ []) (sym_outcome a)
 drawn-sym theory legal a premise = go (dest_equation a.conclusion) refl
   where
     go : (found : Option (NamedTerm × NamedTerm)) → dest_equation a.conclusion ≡ found
@@ -82,18 +82,18 @@ drawn-sym theory legal a premise = go (dest_equation a.conclusion) refl
         rw (equation-drawn a.conclusion left right e)
         (drawn-of_one a (equation right left) (nameless_equation e.ty (image right) (image left)) (image-equation right left e.ty e.right_typed))
 
-pub drawn-add_assum : (theory : Theory) (p : NamedTerm) (ty : HolType) (a : Theorem) → type_of p ≡ Some ty → Draws theory (rule_add_assum p) (a ∷ []) (add_assum_outcome theory p a)
+pub drawn-add_assum : (theory : Theory) (p : NamedTerm) (ty : HolType) (a : Theorem) → type_of p ≡ Some ty → Draws theory (rules.AddAssum p) (a ∷ []) (add_assum_outcome theory p a)
 drawn-add_assum theory p ty a typed =
     walked theory p ty bool_type typed NotBool (stated (image p ∷ images a) a.conclusion)
     (record { passing = all ∷ []; supposed = image p ∷ []; conclusion = image a.conclusion }) (λ inference. drawn inference (images a ∷ []))
     (record { hypotheses = same_set (ap (λ (h : List Nameless). image p ∷ h) (sym (one_premise (images a)))); conclusion = refl })
 
-pub drawn-eqt_intro : (theory : Theory) (a : Theorem) → IsPremise theory a → Draws theory rule_eqt_intro (a ∷ []) (eqt_intro_outcome a)
+pub drawn-eqt_intro : (theory : Theory) (a : Theorem) → IsPremise theory a → Draws theory rules.EqtIntro (a ∷ []) (eqt_intro_outcome a)
 drawn-eqt_intro theory a premise =
     drawn-of_one a (equation a.conclusion named.true_term) (nameless_equation bool_type (image a.conclusion) (image named.true_term))
     (image-equation a.conclusion named.true_term bool_type premise.typed)
 
-pub drawn-conj : (theory : Theory) (a b : Theorem) → Draws theory rule_conj (a ∷ b ∷ []) (conj_outcome a b)
+pub drawn-conj : (theory : Theory) (a b : Theorem) → Draws theory rules.Conj (a ∷ b ∷ []) (conj_outcome a b)
 drawn-conj theory a b = drawn-of_two a b (named.conjunction a.conclusion b.conclusion) (image (named.conjunction a.conclusion b.conclusion)) refl
 
 -- a term that is not among some is not taken out of them
@@ -110,7 +110,7 @@ without-absent p (first ∷ rest) absent = go (same_term first p) refl (same_ter
         let equal : same_term p first ≡ true = (same_term-Decides p first).1 same in
         cc
 
-pub drawn-prove_hyp : (theory : Theory) (a b : Theorem) → Draws theory rule_prove_hyp (a ∷ b ∷ []) (prove_hyp_outcome a b)
+pub drawn-prove_hyp : (theory : Theory) (a b : Theorem) → Draws theory rules.ProveHyp (a ∷ b ∷ []) (prove_hyp_outcome a b)
 drawn-prove_hyp theory a b = go (is_among (image a.conclusion) (images b)) refl
   where
     go : (test : Bool) → is_among (image a.conclusion) (images b) ≡ test
@@ -125,7 +125,7 @@ body-image name ty body =
     let whole : lam ty (image_under ((name, ty) ∷ []) body) ≡ lam ty (close name ty (image body)) = image-abstraction name ty body in
     cc
 
-pub drawn-beta_conv : (theory : Theory) (t : NamedTerm) (ty : HolType) → type_of t ≡ Some ty → Draws theory (rule_beta_conv t) [] (beta_conv_outcome theory t)
+pub drawn-beta_conv : (theory : Theory) (t : NamedTerm) (ty : HolType) → type_of t ≡ Some ty → Draws theory (rules.BetaConv t) [] (beta_conv_outcome theory t)
 drawn-beta_conv theory (combination (abstraction name s body) argument) ty typed =
     let redex : NamedTerm = combination (abstraction name s body) argument in
     let filled : Nameless = nameless_equation (nameless_type [] (image redex)) (image redex) (fill (image argument) (close name s (image body))) in

@@ -9,7 +9,8 @@ use Rattle.hol_model.specs.Kernel.Theorem.{Theorem}
 use Rattle.hol_model.specs.Goals.Goals.{Sequent}
 use Rattle.hol_model.specs.Derived.DerivedRules.{Stated, Conclusion, named, up_to_names, with_left, IsConclusion, conclusion_image, AnswersStated}
 use Rattle.hol_model.specs.Derived.DerivedRules.{terms_of_theorem, sym_outcome, add_assum_outcome, prove_hyp_outcome, beta_conv_outcome}
-use Rattle.hol_model.specs.Derived.InferenceRules.{InferenceRule, rule_sym, rule_add_assum, rule_prove_hyp, rule_beta_conv}
+use Rattle.hol_model.specs.Derived.InferenceRules.{InferenceRule}
+use Rattle.hol_model.specs.declared.rule.Rule.TheVariants as rules
 use Rattle.hol_model.specs.Derived.Inference.{rule_sequent}
 use Rattle.hol_journal.specs.Steps.{sequent_of_theorem}
 use Rattle.hol_equal.specs.Inferred.{IsDrawn, Infers}
@@ -40,21 +41,21 @@ infers theory rule premises arguments outcome result draws answers = record { dr
     go (Err refusal) None (Err fault) is answers = tt
 
 pub infers_sym : {theory : Theory} {a : Theorem} {result : Result Theorem Fault} → IsLegal theory → IsPremise theory a
-    → AnswersStated result (terms_of_theorem a) (sym_outcome a) → Infers theory rule_sym (a ∷ []) result
+    → AnswersStated result (terms_of_theorem a) (sym_outcome a) → Infers theory rules.Sym (a ∷ []) result
 infers_sym {theory} {a} {result} legal premise answers =
-    infers theory rule_sym (a ∷ []) (terms_of_theorem a) (sym_outcome a) result (drawn-sym theory legal a premise) answers
+    infers theory rules.Sym (a ∷ []) (terms_of_theorem a) (sym_outcome a) result (drawn-sym theory legal a premise) answers
 
 pub infers_add_assum : {theory : Theory} {p : NamedTerm} {ty : HolType} {a : Theorem} {result : Result Theorem Fault} → type_of p ≡ Some ty
-    → AnswersStated result (image p ∷ terms_of_theorem a) (add_assum_outcome theory p a) → Infers theory (rule_add_assum p) (a ∷ []) result
+    → AnswersStated result (image p ∷ terms_of_theorem a) (add_assum_outcome theory p a) → Infers theory (rules.AddAssum p) (a ∷ []) result
 infers_add_assum {theory} {p} {ty} {a} {result} typed answers =
-    infers theory (rule_add_assum p) (a ∷ []) (image p ∷ terms_of_theorem a) (add_assum_outcome theory p a) result (drawn-add_assum theory p ty a typed) answers
+    infers theory (rules.AddAssum p) (a ∷ []) (image p ∷ terms_of_theorem a) (add_assum_outcome theory p a) result (drawn-add_assum theory p ty a typed) answers
 
 pub infers_prove_hyp : {theory : Theory} {a b : Theorem} {result : Result Theorem Fault}
-    → AnswersStated result (terms_of_theorem a ++ terms_of_theorem b) (prove_hyp_outcome a b) → Infers theory rule_prove_hyp (a ∷ b ∷ []) result
+    → AnswersStated result (terms_of_theorem a ++ terms_of_theorem b) (prove_hyp_outcome a b) → Infers theory rules.ProveHyp (a ∷ b ∷ []) result
 infers_prove_hyp {theory} {a} {b} {result} answers =
-    infers theory rule_prove_hyp (a ∷ b ∷ []) (terms_of_theorem a ++ terms_of_theorem b) (prove_hyp_outcome a b) result (drawn-prove_hyp theory a b) answers
+    infers theory rules.ProveHyp (a ∷ b ∷ []) (terms_of_theorem a ++ terms_of_theorem b) (prove_hyp_outcome a b) result (drawn-prove_hyp theory a b) answers
 
 pub infers_beta_conv : {theory : Theory} {t : NamedTerm} {ty : HolType} {result : Result Theorem Fault} → type_of t ≡ Some ty
-    → AnswersStated result (image t ∷ []) (beta_conv_outcome theory t) → Infers theory (rule_beta_conv t) [] result
+    → AnswersStated result (image t ∷ []) (beta_conv_outcome theory t) → Infers theory (rules.BetaConv t) [] result
 infers_beta_conv {theory} {t} {ty} {result} typed answers =
-    infers theory (rule_beta_conv t) [] (image t ∷ []) (beta_conv_outcome theory t) result (drawn-beta_conv theory t ty typed) answers
+    infers theory (rules.BetaConv t) [] (image t ∷ []) (beta_conv_outcome theory t) result (drawn-beta_conv theory t ty typed) answers

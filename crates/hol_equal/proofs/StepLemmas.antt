@@ -1,6 +1,6 @@
 -- What the kernel's rules come to by image.
 use Rattle.std.proofs.Common.{◌≡◌, ℕ, List, [], ◌∷◌, ◌++◌, map, Bool, true, false, ◌&&◌, not, if◌then◌else◌, refl, sym, ◌∙◌, ap, subst, inl, inr}
-use Rattle.std.proofs.Common.{Option, Some, None, Result, Ok, Err, IfOk, OnErr, append-nil}
+use Rattle.std.proofs.Common.{Option, Some, None, Result, Ok, Err, IfOk}
 use Rattle.std.specs.Result.{IsErrAnd}
 use Rattle.std.specs.Option.{is_some}
 use Rattle.std.specs.List.{list_all}
@@ -25,7 +25,6 @@ use Rattle.hol_model.proofs.Terms.NamedTests.{is_known-Decides}
 use Rattle.hol_model.proofs.Terms.TypeTests.{knows_type-Decides}
 use Rattle.hol_model.proofs.Terms.HolTypeEq.{type_eq-self}
 use Rattle.hol_model.proofs.Logic.Known as known
-use Rattle.hol_model.proofs.Logic.Earlier.{earlier-same}
 use Rattle.hol_model.proofs.Tests.{first_of_both, second_of_both, both, same_term-Decides, same_variable-self}
 use Rattle.hol_model.proofs.Terms.Images.{image-typed, image-type, image-equation, image-abstraction, occurs_free-image}
 use Rattle.hol_model.proofs.Terms.Measures.{past_limits-image}
@@ -34,72 +33,13 @@ use Rattle.hol_kernel.specs.KnownFormula.{IsKnownFormula}
 use Rattle.hol_kernel.specs.Fits.{TransFits, EqMpFits}
 use Rattle.hol_kernel.proofs.HypothesesLemmas.{with_hypotheses-same_set, image-without_hypothesis}
 use Rattle.hol_kernel.proofs.RuleLemmas.{mk_comb-concluded, abs-concluded}
-use Rattle.hol_journal.specs.Steps.{Step}
-use Rattle.hol_journal.specs.Journal.{Journal, Recorded, IsMade, IsRecorded, theorem_in}
+use Rattle.hol_journal.specs.Journal.{Journal, Recorded, IsMade, theorem_in}
 use Rattle.hol_journal.proofs.GrowthLemmas.{journals-grow}
-use Rattle.hol_journal.proofs.Showing.{unless-is, given-is, refused-is, concluded-is, ok_is, neither, sides_of, formula_of}
+use Rattle.hol_journal.proofs.Showing.{unless-is, refused-is, concluded-is, ok_is, neither, sides_of, formula_of}
 use Rattle.hol_model.specs.Derived.DerivedRules.{HasLeftSide}
 use Rattle.hol_equal.specs.Formulas.{IsFormula}
-use Rattle.hol_equal.specs.Sequents.{Shows, Derives, DerivesInstance, Gives, IsPast, Continues}
-
--- the theory of what an outcome is
-
-pub record StandsOn (theory : Theory) (outcome : Result Theorem Fault) : Type 0 where
-  pub stands : (answer : Theorem) → outcome ≡ Ok answer → answer.theory ≡ theory
-
-concluded-stands : (theory : Theory) (hypotheses : List NamedTerm) (conclusion : NamedTerm) → StandsOn theory (concluded theory hypotheses conclusion)
-concluded-stands theory hypotheses conclusion = record { stands = λ answer is. ap (λ (t : Theorem). t.theory) (concluded-is theory hypotheses conclusion answer is) }
-
-unless-stands : (theory : Theory) (test : Bool) (fault : Fault) (next : Result Theorem Fault) → StandsOn theory next → StandsOn theory (unless test fault next)
-unless-stands theory test fault next stands = record { stands = λ answer is. stands.stands answer (unless-is test fault next answer is).1 }
-
-given-stands : {A : Type 0} (theory : Theory) (found : Option A) (fault : Fault) (next : A → Result Theorem Fault) → ((x : A) → StandsOn theory (next x)) → StandsOn theory (given found fault next)
-given-stands theory found fault next stands = record { stands = λ answer is. let at = given-is found fault next answer is in (stands at.0).stands answer at.2 }
-
-refused-stands : (theory : Theory) (refusal : Option Fault) (next : Result Theorem Fault) → StandsOn theory next → StandsOn theory (refused refusal next)
-refused-stands theory refusal next stands = record { stands = λ answer is. stands.stands answer (refused-is refusal next answer is) }
-
-ok-stands : (theory : Theory) (theorem : Theorem) → theorem.theory ≡ theory → StandsOn theory (Ok theorem)
-ok-stands theory theorem is = record { stands = λ answer same. ap (λ (t : Theorem). t.theory) (sym (ok_is theorem answer same)) ∙ is }
-
-ruleset standing = (given-stands, unless-stands, refused-stands, concluded-stands, ok-stands)
-
--- the journal after a call
-continued : (result : Result Recorded Fault) (old new : Journal) (step : Step) → IfOk result (λ made. made.theorem.theory ≡ old.theory)
-    → IfOk result (IsRecorded old new step) → OnErr result (new ≡ old) → Continues old new result
-continued (Ok made) old new step stands recorded kept = record {
-  grown = journals-grow.grown old new step made recorded;
-  theory = sym recorded.stands_on ∙ stands;
-  held = record { made = journals-grow.made old new step made recorded; stands_on = recorded.stands_on };
-}
-continued (Err fault) old new step stands recorded kept = record {
-  grown = record {
-    added = [];
-    entries = ap (λ (j : Journal). j.entries) kept ∙ sym (append-nil old.entries);
-    earlier =
-        earlier-same old.theory new.theory (ap (λ (j : Journal). j.theory) (sym kept));
-  };
-  theory = ap (λ (j : Journal). j.theory) kept;
-  held = tt;
-}
-
--- after a call with one outcome
-pub continues : (result : Result Recorded Fault) (old new : Journal) (step : Step) (outcome : Result Theorem Fault) → StandsOn old.theory outcome → Answers (theorem_in result) outcome
-    → IfOk result (IsRecorded old new step) → OnErr result (new ≡ old) → Continues old new result
-continues result old new step outcome stands answers recorded kept = continued result old new step (theory_of result answers) recorded kept
-  where
-    theory_of : (result : Result Recorded Fault) → Answers (theorem_in result) outcome → IfOk result (λ made. made.theorem.theory ≡ old.theory)
-    theory_of (Ok made) answers = stands.stands made.theorem answers
-    theory_of (Err fault) answers = tt
-
--- after a call that changes the parts of a theorem
-pub continues-changed : (result : Result Recorded Fault) (old new : Journal) (step : Step) (refusal : Option Fault) (change : Nameless → Nameless) (theorem : Theorem)
-    → AnswersSuch (theorem_in result) refusal (IsChanged old.theory change theorem) → IfOk result (IsRecorded old new step) → OnErr result (new ≡ old) → Continues old new result
-continues-changed result old new step refusal change theorem answers recorded kept = continued result old new step (theory_of result answers) recorded kept
-  where
-    theory_of : (result : Result Recorded Fault) → AnswersSuch (theorem_in result) refusal (IsChanged old.theory change theorem) → IfOk result (λ made. made.theorem.theory ≡ old.theory)
-    theory_of (Ok made) answers = answers.1.stands_on
-    theory_of (Err fault) answers = tt
+use Rattle.hol_journal.specs.Growth.{Continues}
+use Rattle.hol_equal.specs.Sequents.{Shows, Derives, DerivesInstance, Gives, IsPast}
 
 -- the conclusion, where it is an equation by image
 
@@ -246,8 +186,6 @@ no_member : {A : Type 0} → IsSameSet {A = A} [] []
 no_member = record { to = λ x m. m; back = λ x m. m }
 
 -- REFL
-pub refl-stands : (theory : Theory) (term : NamedTerm) → StandsOn theory (refl_outcome theory term)
-refl-stands theory term = search standing
 
 pub refl-derives : (result : Result Recorded Fault) (theory : Theory) (term : NamedTerm) → Answers (theorem_in result) (refl_outcome theory term)
     → (ty : HolType) → IsKnown theory (image term) ty → Derives result [] (nameless_equation ty (image term) (image term))
@@ -257,8 +195,6 @@ refl-derives result theory term answers ty known =
     equation-derives result theory [] term term ty [] (image term) (image term) typed typed refl refl no_member (refl_outcome theory term) (rw none refl) answers
 
 -- ASSUME
-pub assume-stands : (theory : Theory) (term : NamedTerm) → StandsOn theory (assume_outcome theory term)
-assume-stands theory term = search standing
 
 pub assume-gives : (result : Result Recorded Fault) (theory : Theory) (term : NamedTerm) → Answers (theorem_in result) (assume_outcome theory term)
     → IsKnown theory (image term) bool_type → Gives result (image term ∷ []) (image term)
@@ -269,8 +205,6 @@ assume-gives result theory term answers known =
     (record { same_set = record { to = λ x m. m; back = λ x m. m }; concludes = refl }) (assume_outcome theory term) (rw (formula, none) refl) answers
 
 -- TRANS
-pub trans-stands : (theory : Theory) (first second : Theorem) → StandsOn theory (trans_outcome theory first second)
-trans-stands theory first second = search standing
 
 pub trans-derives : (result : Result Recorded Fault) (theory : Theory) (first second : Theorem) → IsTheorem first → IsTheorem second → Answers (theorem_in result) (trans_outcome theory first second)
     → (h k : List Nameless) (ty : HolType) (l m r : Nameless) → Shows first h (nameless_equation ty l m) → Shows second k (nameless_equation ty m r)
@@ -315,8 +249,6 @@ trans-fits first second h k ty l m r shown_first shown_second =
     record { ty = ty; left = l; middle = m; right = r; first_is = shown_first.concludes; second_is = shown_second.concludes }
 
 -- EQ_MP
-pub eq_mp-stands : (theory : Theory) (first second : Theorem) → StandsOn theory (eq_mp_outcome theory first second)
-eq_mp-stands theory first second = search standing
 
 pub eq_mp-gives : (result : Result Recorded Fault) (theory : Theory) (first second : Theorem) → IsTheorem first → Answers (theorem_in result) (eq_mp_outcome theory first second)
     → (h k : List Nameless) (p q : Nameless) → Shows first h (nameless_equation bool_type p q) → Shows second k p → Gives result (h ++ k) q
@@ -337,8 +269,6 @@ pub equation-fits : (first second : Theorem) (right : NamedTerm) → type_of sec
 equation-fits first second right typed is = record { right = image right; first_is = ap image is ∙ image-equation second.conclusion right bool_type typed }
 
 -- MK_COMB
-pub mk_comb-stands : (theory : Theory) (first second : Theorem) → StandsOn theory (mk_comb_outcome theory first second)
-mk_comb-stands theory first second = search standing
 
 pub application : (f x : NamedTerm) (domain codomain : HolType) → type_of f ≡ Some (function_type domain codomain) → type_of x ≡ Some domain → type_of (combination f x) ≡ Some codomain
 application f x domain codomain typed_f typed_x = rw (typed_f, typed_x, type_eq-self domain) refl
@@ -358,8 +288,6 @@ mk_comb-derives result theory first second is_first is_second answers h k domain
     (mk_comb_outcome theory first second) (mk_comb-concluded theory first second e.left e.right a.left a.right codomain e.dest a.dest left_typed) answers
 
 -- ABS
-pub abs-stands : (theory : Theory) (binder : NamedTerm) (theorem : Theorem) → StandsOn theory (abs_outcome theory binder theorem)
-abs-stands theory binder theorem = search standing
 
 binder_is : (binder : NamedTerm) (name : List ℕ) (ty : HolType) → image binder ≡ free name ty → dest_variable binder ≡ Some (name, ty)
 binder_is (variable other s) name ty is = let one : other ≡ name = cc in let two : s ≡ ty = cc in λ i. Some (one i, two i)
@@ -409,8 +337,6 @@ abs-concludes (Ok made) theory binder theorem is answers = λ name domain codoma
 abs-concludes (Err fault) theory binder theorem is answers = tt
 
 -- DEDUCT_ANTISYM_RULE
-pub deduct-stands : (theory : Theory) (first second : Theorem) → StandsOn theory (deduct_antisym_outcome theory first second)
-deduct-stands theory first second = search standing
 
 without-same : (p : Nameless) (h k : List Nameless) → IsSameSet h k → IsSameSet (without p h) (without p k)
 without-same p h k same = record {
@@ -436,8 +362,6 @@ deduct-derives result theory first second is_first is_second answers h k p q sho
     (deduct_antisym_outcome theory first second) refl answers
 
 -- BETA
-pub beta-stands : (theory : Theory) (term : NamedTerm) → StandsOn theory (beta_outcome theory term)
-beta-stands theory term = search standing
 
 pub beta-derives : (result : Result Recorded Fault) (theory : Theory) (term : NamedTerm) → Answers (theorem_in result) (beta_outcome theory term)
     → (name : List ℕ) (domain codomain : HolType) (body : NamedTerm) → term ≡ combination (abstraction name domain body) (variable name domain)

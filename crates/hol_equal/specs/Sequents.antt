@@ -1,5 +1,5 @@
 -- Sequents by image: what a theorem says up to the names of bound variables, and what a call that derives one answers.
-use Rattle.std.specs.Prelude.{◌≡◌, ◌⊎◌, List, ◌∷◌, map, Bool, false, Result, Ok, Err, IfOk}
+use Rattle.std.specs.Prelude.{◌≡◌, ◌⊎◌, List, ◌∷◌, map, Bool, false, Result, Ok, Err}
 use Rattle.std.specs.List.{list_all}
 use Rattle.hol_model.specs.declared.fault.Fault.{Fault}
 use Rattle.hol_model.specs.declared.fault.Fault.TheVariants.{Memory, TooLarge}
@@ -11,8 +11,7 @@ use Rattle.hol_model.specs.Kernel.Instantiation.{instantiate_all}
 use Rattle.hol_model.specs.Terms.Measures.{nameless_within_limits}
 use Rattle.hol_model.specs.Logic.Derivable.{IsSameSet}
 use Rattle.hol_model.specs.Kernel.Theorem.{Theorem}
-use Rattle.hol_journal.specs.Journal.{Journal, Recorded, IsMade}
-use Rattle.hol_journal.specs.Growth.{IsGrown}
+use Rattle.hol_journal.specs.Journal.{Recorded}
 
 -- the theorem's hypotheses are this set, and its conclusion is this term
 pub record Shows (theorem : Theorem) (hypotheses : List Nameless) (conclusion : Nameless) : Type 0 where
@@ -40,17 +39,6 @@ DerivesInstance result hypotheses conclusion = DerivesIf (list_all nameless_with
 abbrev pub Gives : Result Recorded Fault → List Nameless → Nameless → Type 0
 Gives (Ok made) hypotheses conclusion = Shows made.theorem hypotheses conclusion
 Gives (Err fault) hypotheses conclusion = fault ≡ Memory
-
--- the recorder made the theorem, and it stands on the recorder's theory
-pub record IsHeld (journal : Journal) (answer : Recorded) : Type 0 where
-  pub made : IsMade journal answer
-  pub stands_on : answer.theorem.theory ≡ journal.theory
-
--- after a call the journal has grown, the theory is the same, and what the call answers is held
-pub record Continues (old new : Journal) (result : Result Recorded Fault) : Type 0 where
-  pub grown : IsGrown old new
-  pub theory : new.theory ≡ old.theory
-  pub held : IfOk result (IsHeld new)
 
 -- a term with types for type variables, and then terms for variables, by lists of replacements (new, old)
 abbrev pub instance_of : List (HolType × HolType) → List (NamedTerm × NamedTerm) → Nameless → Nameless

@@ -3,7 +3,8 @@ ghost use Rattle.std.specs.Prelude.{◌≡◌, ◌∷◌, ℕ, List, [], Some, N
 ghost use Rattle.hol_model.specs.Terms.HolType.{HolType};
 ghost use Rattle.hol_model.specs.Terms.NamedTerm.{NamedTerm, variable, combination, abstraction, type_of};
 ghost use Rattle.hol_model.specs.Kernel.Rules.{first_unknown};
-ghost use Rattle.hol_equal.specs.Sequents.{DerivesIf, Continues};
+ghost use Rattle.hol_journal.specs.Growth.{Continues};
+ghost use Rattle.hol_equal.specs.Sequents.{DerivesIf};
 ghost use Rattle.hol_equal.specs.Conversions.{conversion, conversion_fits, IsKnownRedex};
 
 use crate::steps;

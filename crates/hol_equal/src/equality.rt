@@ -10,12 +10,13 @@ ghost use Rattle.hol_model.specs.Terms.HolType.{bool_type};
 ghost use Rattle.hol_model.specs.Terms.Measures.{nameless_within_limits};
 ghost use Rattle.hol_model.specs.Logic.Derivable.{without, nameless_equation};
 ghost use Rattle.hol_model.specs.Derived.DerivedRules.{AnswersStated, terms_of_theorem, sym_outcome, add_assum_outcome, prove_hyp_outcome, beta_conv_outcome};
-ghost use Rattle.hol_model.specs.Derived.InferenceRules.{rule_sym, rule_add_assum, rule_prove_hyp, rule_beta_conv};
+ghost use Rattle.hol_model.specs.declared.rule.Rule.TheVariants as rules;
 ghost use Rattle.hol_model.specs.declared.fault.Fault.TheVariants.{Memory};
 ghost use Rattle.hol_kernel.specs.Fits.{DeductFits};
 ghost use Rattle.hol_journal.specs.Journal.{IsMade, theorem_in};
 ghost use Rattle.hol_equal.specs.Formulas.{IsFormula};
-ghost use Rattle.hol_equal.specs.Sequents.{Shows, DerivesIf, Continues, IsHeld};
+ghost use Rattle.hol_journal.specs.Growth.{Continues, IsHeld};
+ghost use Rattle.hol_equal.specs.Sequents.{Shows, DerivesIf};
 ghost use Rattle.hol_equal.specs.Inferred.{Infers};
 ghost use Rattle.hol_equal.specs.Conversions.{beta_converted_outcome};
 
@@ -95,7 +96,7 @@ pub fn sym(recorder: &mut Recorder, premise: &Rec) -> Result<Rec, Fault>
     requires { IsMade recorder.old premise.now }
     ensures continues { Continues recorder.old recorder.new result }
     ensures outcome { AnswersStated (theorem_in result) (terms_of_theorem premise.now.theorem) (sym_outcome premise.now.theorem) }
-    ensures inferred { Infers recorder.old.theory rule_sym (premise.now.theorem ∷ []) (theorem_in result) }
+    ensures inferred { Infers recorder.old.theory rules.Sym (premise.now.theorem ∷ []) (theorem_in result) }
 {
     let Some(parts) = equation_parts(conclusion_of(recorder, premise)) else {
         return Err(Fault::NotEquation);
@@ -210,7 +211,7 @@ pub fn add_assum(recorder: &mut Recorder, p: &Term, premise: &Rec) -> Result<Rec
     requires { IsMade recorder.old premise.now }
     ensures continues { Continues recorder.old recorder.new result }
     ensures outcome { AnswersStated (theorem_in result) (image p.now ∷ terms_of_theorem premise.now.theorem) (add_assum_outcome recorder.old.theory p.now premise.now.theorem) }
-    ensures inferred { Infers recorder.old.theory (rule_add_assum p.now) (premise.now.theorem ∷ []) (theorem_in result) }
+    ensures inferred { Infers recorder.old.theory (rules.AddAssum p.now) (premise.now.theorem ∷ []) (theorem_in result) }
 {
     let _type = p.ty();
     let assumed = steps::assume(recorder, p)?;
@@ -224,7 +225,7 @@ pub fn add_assum_known(recorder: &mut Recorder, p: &Term, premise: &Rec) -> Resu
     requires formula { IsFormula recorder.old.theory p.now }
     ensures continues { Continues recorder.old recorder.new result }
     ensures outcome { AnswersStated (theorem_in result) (image p.now ∷ terms_of_theorem premise.now.theorem) (add_assum_outcome recorder.old.theory p.now premise.now.theorem) }
-    ensures inferred { Infers recorder.old.theory (rule_add_assum p.now) (premise.now.theorem ∷ []) (theorem_in result) }
+    ensures inferred { Infers recorder.old.theory (rules.AddAssum p.now) (premise.now.theorem ∷ []) (theorem_in result) }
 {
     let _type = p.ty();
     let assumed = steps::assume_known(recorder, p)?;
@@ -239,7 +240,7 @@ pub fn prove_hyp(recorder: &mut Recorder, first: &Rec, second: &Rec) -> Result<R
     requires second { IsMade recorder.old second.now }
     ensures continues { Continues recorder.old recorder.new result }
     ensures outcome { AnswersStated (theorem_in result) (terms_of_theorem first.now.theorem ++ terms_of_theorem second.now.theorem) (prove_hyp_outcome first.now.theorem second.now.theorem) }
-    ensures inferred { Infers recorder.old.theory rule_prove_hyp (first.now.theorem ∷ second.now.theorem ∷ []) (theorem_in result) }
+    ensures inferred { Infers recorder.old.theory rules.ProveHyp (first.now.theorem ∷ second.now.theorem ∷ []) (theorem_in result) }
 {
     let p = recorder.thm(first).concl();
     let theorem = recorder.thm(second);
@@ -283,7 +284,7 @@ fn beta_converted(recorder: &mut Recorder, term: &Term) -> Result<Rec, Fault>
 pub fn beta_conv(recorder: &mut Recorder, term: &Term) -> Result<Rec, Fault>
     ensures continues { Continues recorder.old recorder.new result }
     ensures outcome { AnswersStated (theorem_in result) (image term.now ∷ []) (beta_conv_outcome recorder.old.theory term.now) }
-    ensures inferred { Infers recorder.old.theory (rule_beta_conv term.now) [] (theorem_in result) }
+    ensures inferred { Infers recorder.old.theory (rules.BetaConv term.now) [] (theorem_in result) }
 {
     let _type = term.ty();
     let converted = beta_converted(recorder, term)?;

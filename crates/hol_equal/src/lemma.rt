@@ -8,7 +8,8 @@ ghost use Rattle.hol_model.specs.Terms.Substitution.{put_all};
 ghost use Rattle.hol_model.specs.Kernel.Instantiation.{instantiate_all, replacements_refusal, type_replacements_refusal};
 ghost use Rattle.hol_model.specs.Logic.Derivable.{nameless_equation};
 ghost use Rattle.hol_journal.specs.Journal.{IsMade};
-ghost use Rattle.hol_equal.specs.Sequents.{Shows, DerivesIf, Continues, instance_of};
+ghost use Rattle.hol_journal.specs.Growth.{Continues};
+ghost use Rattle.hol_equal.specs.Sequents.{Shows, DerivesIf, instance_of};
 ghost use Rattle.hol_equal.specs.Fits.{LemmaFits};
 
 use crate::equality::{cut, cut_known};

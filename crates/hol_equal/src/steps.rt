@@ -15,9 +15,10 @@ ghost use Rattle.hol_model.specs.Logic.Derivable.{NotFreeInAny, without, nameles
 ghost use Rattle.hol_kernel.specs.Fits.{TransFits, EqMpFits, DeductFits};
 ghost use Rattle.hol_journal.specs.Journal.{IsMade, theorem_in};
 ghost use Rattle.hol_equal.specs.Formulas.{IsFormula};
-ghost use Rattle.hol_equal.specs.Sequents.{Shows, Derives, DerivesInstance, Gives, Continues};
+ghost use Rattle.hol_journal.specs.Growth.{Continues};
+ghost use Rattle.hol_equal.specs.Sequents.{Shows, Derives, DerivesInstance, Gives};
 
-use hol_journal::{Rec, Recorder};
+use hol_journal::{Inference, Rec, Recorder};
 use hol_model::Fault;
 use hol_terms::Term;
 use hol_types::Ty;
@@ -40,7 +41,7 @@ pub(crate) fn refl(recorder: &mut Recorder, term: &Term) -> Result<Rec, Fault>
     ensures names { IfOk result (λ made. made.theorem.conclusion ≡ equation term.now term.now) }
     ensures derives { (ty : HolType) → IsKnown recorder.old.theory (image term.now) ty → Derives result [] (nameless_equation ty (image term.now) (image term.now)) }
 {
-    recorder.refl(term)
+    recorder.infer(Inference::Refl(term))
 }
 
 // REFL, of a term that the theory knows, which is not walked for it.
@@ -50,7 +51,7 @@ pub(crate) fn refl_known(recorder: &mut Recorder, term: &Term) -> Result<Rec, Fa
     ensures names { IfOk result (λ made. made.theorem.conclusion ≡ equation term.now term.now) }
     ensures derives { (ty : HolType) → IsKnown recorder.old.theory (image term.now) ty → Derives result [] (nameless_equation ty (image term.now) (image term.now)) }
 {
-    recorder.refl_known(term)
+    recorder.infer_known(Inference::Refl(term))
 }
 
 /// ASSUME, which walks the term; for a formula that the theory knows, `assume_known`.
@@ -59,7 +60,7 @@ pub fn assume(recorder: &mut Recorder, term: &Term) -> Result<Rec, Fault>
     ensures outcome { Answers (theorem_in result) (assume_outcome recorder.old.theory term.now) }
     ensures gives { IsKnown recorder.old.theory (image term.now) bool_type → Gives result (image term.now ∷ []) (image term.now) }
 {
-    recorder.assume(term)
+    recorder.infer(Inference::Assume(term))
 }
 
 /// ASSUME, of a formula that the theory knows, which is not walked for it.
@@ -69,7 +70,7 @@ pub fn assume_known(recorder: &mut Recorder, term: &Term) -> Result<Rec, Fault>
     ensures outcome { Answers (theorem_in result) (assume_outcome recorder.old.theory term.now) }
     ensures gives { IsKnown recorder.old.theory (image term.now) bool_type → Gives result (image term.now ∷ []) (image term.now) }
 {
-    recorder.assume_known(term)
+    recorder.infer_known(Inference::Assume(term))
 }
 
 // BETA, of a redex that the theory knows, which is not walked for it.
@@ -81,7 +82,7 @@ pub(crate) fn beta_known(recorder: &mut Recorder, term: &Term) -> Result<Rec, Fa
         → IsKnown recorder.old.theory (image term.now) codomain → Derives result []
         (nameless_equation codomain (app (lam domain (close name domain (image body))) (free name domain)) (image body)) }
 {
-    recorder.beta_known(term)
+    recorder.infer_known(Inference::Beta(term))
 }
 
 /// TRANS, of theorems that show sequents. Compares the middle terms; for equations that a proof shows to fit, `trans_known`.
@@ -95,7 +96,7 @@ pub fn trans(recorder: &mut Recorder, first: &Rec, second: &Rec) -> Result<Rec, 
 {
     let _first = recorder.thm(first).concl();
     let _second = recorder.thm(second).concl();
-    recorder.trans(first, second)
+    recorder.infer(Inference::Trans(first, second))
 }
 
 /// TRANS, of equations that fit, whose middle terms are not compared for it.
@@ -110,7 +111,7 @@ pub fn trans_known(recorder: &mut Recorder, first: &Rec, second: &Rec) -> Result
 {
     let _first = recorder.thm(first).concl();
     let _second = recorder.thm(second).concl();
-    recorder.trans_known(first, second)
+    recorder.infer_known(Inference::Trans(first, second))
 }
 
 /// EQ_MP, of theorems that show sequents. Compares the left side with the second conclusion; for premises that a proof
@@ -124,7 +125,7 @@ pub fn eq_mp(recorder: &mut Recorder, first: &Rec, second: &Rec) -> Result<Rec, 
 {
     let _first = recorder.thm(first).concl();
     let _second = recorder.thm(second).concl();
-    recorder.eq_mp(first, second)
+    recorder.infer(Inference::EqMp(first, second))
 }
 
 /// EQ_MP, of an equation and its left side, which are not compared for it.
@@ -138,7 +139,7 @@ pub fn eq_mp_known(recorder: &mut Recorder, first: &Rec, second: &Rec) -> Result
 {
     let _first = recorder.thm(first).concl();
     let _second = recorder.thm(second).concl();
-    recorder.eq_mp_known(first, second)
+    recorder.infer_known(Inference::EqMp(first, second))
 }
 
 /// MK_COMB, of theorems that show sequents.
@@ -155,7 +156,7 @@ pub fn mk_comb(recorder: &mut Recorder, first: &Rec, second: &Rec) -> Result<Rec
 {
     let _first = recorder.thm(first).concl();
     let _second = recorder.thm(second).concl();
-    recorder.mk_comb(first, second)
+    recorder.infer(Inference::MkComb(first, second))
 }
 
 /// DEDUCT_ANTISYM_RULE of theorems that show sequents: each hypothesis that is equal to the other conclusion goes.
@@ -169,7 +170,7 @@ pub fn deduct_antisym(recorder: &mut Recorder, first: &Rec, second: &Rec) -> Res
 {
     let _first = recorder.thm(first).concl();
     let _second = recorder.thm(second).concl();
-    recorder.deduct_antisym(first, second)
+    recorder.infer(Inference::DeductAntisym(first, second))
 }
 
 /// DEDUCT_ANTISYM_RULE, where the second theorem has no hypothesis but the first conclusion, which is not compared for it.
@@ -188,7 +189,7 @@ pub fn deduct_antisym_known(
 {
     let _first = recorder.thm(first).concl();
     let _second = recorder.thm(second).concl();
-    recorder.deduct_antisym_known(first, second)
+    recorder.infer_known(Inference::DeductAntisym(first, second))
 }
 
 /// ABS of a theorem that shows a sequent, over a variable of a known type that is free in no hypothesis.
@@ -203,7 +204,7 @@ pub fn abs(recorder: &mut Recorder, binder: &Term, premise: &Rec) -> Result<Rec,
         → Derives result h (nameless_equation (function_type domain codomain) (lam domain (close name domain s)) (lam domain (close name domain t))) }
 {
     let _premise = recorder.thm(premise).concl();
-    recorder.abs(binder, premise)
+    recorder.infer(Inference::Abs(binder, premise))
 }
 
 // INST, which walks the terms.
@@ -217,7 +218,7 @@ pub(crate) fn inst(
     ensures derives { replacements_refusal recorder.old.theory theta.now ≡ None → (h : List Nameless) (c : Nameless) → Shows premise.now.theorem h c
         → DerivesInstance result (map (put_all theta.now) h) (put_all theta.now c) }
 {
-    recorder.inst(theta, premise)
+    recorder.infer(Inference::Inst(theta, premise))
 }
 
 // INST, by terms of the variables' types that the theory knows, which are not walked for it.
@@ -232,7 +233,7 @@ pub(crate) fn inst_known(
     ensures derives { replacements_refusal recorder.old.theory theta.now ≡ None → (h : List Nameless) (c : Nameless) → Shows premise.now.theorem h c
         → DerivesInstance result (map (put_all theta.now) h) (put_all theta.now c) }
 {
-    recorder.inst_known(theta, premise)
+    recorder.infer_known(Inference::Inst(theta, premise))
 }
 
 // INST_TYPE, by known types.
@@ -246,5 +247,5 @@ pub(crate) fn inst_type(
     ensures derives { type_replacements_refusal recorder.old.theory theta.now ≡ None → (h : List Nameless) (c : Nameless)
         → Shows premise.now.theorem h c → DerivesInstance result (map (instantiate_all theta.now) h) (instantiate_all theta.now c) }
 {
-    recorder.inst_type(theta, premise)
+    recorder.infer(Inference::InstType(theta, premise))
 }

@@ -7,7 +7,7 @@ ghost use Rattle.hol_just.specs.Steps.{goal_of};
 ghost use Rattle.hol_journal.specs.Journal.{IsMade, theorem_in};
 ghost use Rattle.hol_goals.specs.Closing.{Closes};
 
-use hol_journal::{Rec, Recorder, journals_grow};
+use hol_journal::{Inference, Rec, Recorder, journals_grow};
 use hol_just::Goal;
 use hol_model::Fault;
 
@@ -30,6 +30,6 @@ pub fn closed(recorder: &mut Recorder, goal: &Goal, theorem: &Rec) -> Result<Rec
     if !achieves(recorder, theorem, goal) {
         return Err(Fault::InvalidStep);
     }
-    let same = recorder.refl(&goal.concl)?;
-    recorder.eq_mp(&same, theorem)
+    let same = recorder.infer(Inference::Refl(&goal.concl))?;
+    recorder.infer(Inference::EqMp(&same, theorem))
 }

@@ -1,8 +1,7 @@
 -- Inferences: a primitive rule or an axiom, with what it takes.
-use Rattle.std.specs.Prelude.{◌≡◌, true, None, Result, IfOk, IfErr, IsSome}
+use Rattle.std.specs.Prelude.{◌≡◌, true, None, Result, Ok, IsSome}
 use Rattle.std.specs.List.{list_all}
 use Rattle.hol_model.specs.declared.fault.Fault.{Fault}
-use Rattle.hol_model.specs.declared.fault.Fault.TheVariants.{Memory}
 use Rattle.hol_model.specs.Terms.NamedTerm.{NamedTerm, type_of, is_within_limits}
 use Rattle.hol_model.specs.Logic.Theory.{Theory}
 use Rattle.hol_model.specs.Logic.KnownTerm.{is_known}
@@ -45,10 +44,6 @@ AreMade journal (Inst theta theorem) = IsMade journal theorem.now
 AreMade journal (InstType theta theorem) = IsMade journal theorem.now
 AreMade journal _ = Unit {0}
 
--- what a call answers is the axiom, or that there is no memory
-abbrev pub IsAxiom : Theorem → Result Theorem Fault → Type 0
-IsAxiom law answer = IfOk answer (λ theorem. theorem ≡ law) × IfErr answer (λ fault. fault ≡ Memory)
-
 -- what a call answers is what the rule concludes over the theory
 abbrev pub IsInferred : Theory → Inference → Result Theorem Fault → Type 0
 IsInferred theory (Refl term) answer = Answers answer (outcome.refl_outcome theory term.now)
@@ -61,8 +56,8 @@ IsInferred theory (EqMp first second) answer = Answers answer (outcome.eq_mp_out
 IsInferred theory (DeductAntisym first second) answer = Answers answer (outcome.deduct_antisym_outcome theory first.now.theorem second.now.theorem)
 IsInferred theory (Inst theta theorem) answer = AnswersSuch answer (instance.inst_refusal theory theta.now theorem.now.theorem) (instance.IsInst theory theta.now theorem.now.theorem)
 IsInferred theory (InstType theta theorem) answer = AnswersSuch answer (instance.inst_type_refusal theory theta.now theorem.now.theorem) (instance.IsInstType theory theta.now theorem.now.theorem)
-IsInferred theory Eta answer = IsAxiom (axioms.eta_theorem theory) answer
-IsInferred theory Select answer = IsAxiom (axioms.select_theorem theory) answer
+IsInferred theory Eta answer = Answers answer (Ok (axioms.eta_theorem theory))
+IsInferred theory Select answer = Answers answer (Ok (axioms.select_theorem theory))
 
 -- its parts fit, so that the rule has neither to walk nor to compare them
 abbrev pub Fits : Theory → Inference → Type 0

@@ -1,16 +1,14 @@
 -- The rules of names, with their number of terms.
-use Rattle.std.proofs.Common.{◌≡◌, List, [], ◌∷◌, length, refl, sym, ◌∙◌, Option, None, Some}
+use Rattle.std.proofs.Common.{◌≡◌, List, [], ◌∷◌, length, refl, Option, None, Some}
 use Rattle.std.specs.Prelude.{IsSome}
-use Rattle.std.specs.Option.{option_map}
 use Rattle.hol_model.specs.Terms.NamedTerm.{NamedTerm}
+use Rattle.hol_model.specs.Derived.InferenceRules.{InferenceRule}
 use Rattle.hol_model_rules.specs.declared.rule_name.RuleName.{RuleName}
 use Rattle.hol_model_rules.specs.declared.rule_name.RuleName.TheVariants.{Refl, Trans, MkComb, Abs, Beta, Assume, EqMp, DeductAntisym, EtaAxiom, SelectAxiom, Sym, AddAssum, ProveHyp, EqtIntro, EqtElim}
 use Rattle.hol_model_rules.specs.declared.rule_name.RuleName.TheVariants.{BetaConv, Conj, Conjunct1, Conjunct2, Disch, Undisch, Mp, Spec, Gen, Disj1, Disj2, DisjCases, Contr, NotIntro, NotElim, Exists}
 use Rattle.hol_model_rules.specs.declared.rule_name.RuleName.TheVariants.{Choose}
 use Rattle.hol_model_rules.specs.RuleForms.{form_of}
 use Rattle.hol_model_rules.specs.RuleOutcomes.{rule_with}
-use Rattle.hol_just.specs.declared.rule.Rule.{Rule}
-use Rattle.hol_just.specs.Rules.{rule_of}
 
 -- there is a rule for the number of terms that its form tells
 has-rule : (rule : RuleName) (terms : List NamedTerm) → length terms ≡ (form_of rule).terms → None ≡ rule_with rule terms → ⊥
@@ -48,6 +46,6 @@ has-rule Choose (t ∷ []) same none = cc
 has-rule Exists (t ∷ u ∷ []) same none = cc
 has-rule rule terms same none = cc
 
-pub takes_terms : (name : RuleName) (terms : List NamedTerm) (result : Option Rule) → option_map rule_of result ≡ rule_with name terms → length terms ≡ (form_of name).terms → IsSome result
+pub takes_terms : (name : RuleName) (terms : List NamedTerm) (result : Option InferenceRule) → result ≡ rule_with name terms → length terms ≡ (form_of name).terms → IsSome result
 takes_terms name terms (Some rule) is same = refl
 takes_terms name terms None is same = absurd (has-rule name terms same is)

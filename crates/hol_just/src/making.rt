@@ -4,7 +4,6 @@ ghost use Rattle.hol_model.specs.declared.fault.Fault.TheVariants.{Memory};
 ghost use Rattle.hol_model.specs.Goals.Justifications as trees;
 ghost use Rattle.hol_just.specs.Flat.{is_well_cited, tree};
 ghost use Rattle.hol_just.specs.Lines.{flat_line, flat_lines, flat_of_lines, IsLeaf};
-ghost use Rattle.hol_just.specs.Rules.{rule_of};
 ghost use Rattle.hol_just.specs.Steps.{flat_of, tree_of, steps_of, parts_of, IsRefused};
 ghost use Rattle.hol_model.specs.Goals.Replays.{is_within_depth};
 ghost use Rattle.hol_just.specs.Joining.{IsJoined, own_portion};
@@ -89,10 +88,10 @@ fn joined(alloc: Global, parts: &[Just]) -> Result<Joined, Fault>
 /// The justification by a rule, from one for each of its premises, in order; whether the rule draws anything is not asked.
 /// The lines of all parts are copied. Refused: Memory, or TooLarge for a tree that is deeper than the limit.
 pub fn step(alloc: Global, rule: Rule, parts: &[Just]) -> Result<Just, Fault>
-    ensures tree { IfOk result (λ made. tree_of made ≡ trees.by_rule (rule_of rule) (parts_of (map tree_of parts.now))) }
+    ensures tree { IfOk result (λ made. tree_of made ≡ trees.by_rule rule (parts_of (map tree_of parts.now))) }
     ensures steps { IfOk result (λ made. steps_of made ≡ sum_by steps_of parts.now + 1) }
     ensures within { IfOk result (λ made. is_within_depth (tree_of made) ≡ true) }
-    ensures err { IfErr result (IsRefused (trees.by_rule (rule_of rule) (parts_of (map tree_of parts.now)))) }
+    ensures err { IfErr result (IsRefused (trees.by_rule rule (parts_of (map tree_of parts.now)))) }
 {
     let Joined { mut lines, roots } = joined(alloc, parts)?;
     let root = lines.len();

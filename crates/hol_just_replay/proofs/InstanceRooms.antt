@@ -1,5 +1,5 @@
 -- INST and INST_TYPE find room.
-use Rattle.std.proofs.Common.{◌≡◌, List, [], ◌∷◌, map, Bool, true, false, not, if◌then◌else◌, refl, ◌∙◌, ap, subst, inl, inr, Option, Some, None, Result, Ok, Err, arith}
+use Rattle.std.proofs.Common.{◌≡◌, List, [], ◌∷◌, map, Bool, true, false, not, if◌then◌else◌, refl, ◌∙◌, ap, subst, inl, inr, Option, Some, None, Result, Ok, Err, arith, Vec, Global}
 use Rattle.std.specs.List.{list_all}
 use Rattle.std.proofs.lemmas.List.{append-nil}
 use Rattle.hol_model.specs.declared.fault.Fault.{Fault}
@@ -18,7 +18,7 @@ use Rattle.hol_model.specs.Kernel.Instantiation.{IsChanged, or_too_large, all_fi
 use Rattle.hol_model.specs.Kernel.Instantiation.{type_replacements_refusal, inst_type_refusal, IsInstType}
 use Rattle.hol_model.specs.Goals.Replays.{terms_of_sequent}
 use Rattle.hol_model.specs.Derived.DerivedRules.{is_roomy, images}
-use Rattle.hol_model.specs.Derived.InferenceRules.{rule_inst, rule_inst_type}
+use Rattle.hol_model.specs.declared.rule.Rule.TheVariants as rules
 use Rattle.hol_model.specs.Derived.Inference.{given, require, conclude, all_changed, drawn, may_replace, may_replace_types}
 use Rattle.hol_model.proofs.Tests.{first_of_both, second_of_both, both}
 use Rattle.hol_equal.specs.Inferred.{IsDrawn}
@@ -98,26 +98,29 @@ type-replacements-other theory theta = go (replaces_type_variables theta) (list_
     go true false is = cc
     go false types is = cc
 
-pub room-inst : {theory : Theory} {theta : List (NamedTerm × NamedTerm)} {a : Theorem} {result : Result Theorem Fault}
-    → AnswersSuch result (inst_refusal theory theta a) (IsInst theory theta a) → FindsRoom theory (rule_inst theta) (a ∷ []) result
+pub room-inst : {theory : Theory} {theta : Vec (NamedTerm × NamedTerm) Global} {a : Theorem} {result : Result Theorem Fault}
+    → AnswersSuch result (inst_refusal theory theta.items a) (IsInst theory theta.items a) → FindsRoom theory (rules.Inst theta) (a ∷ []) result
 room-inst {theory} {theta} {a} {result} answers =
-    record { finds = λ room. changed-room theory (put_all theta) a (may_replace theory theta) (replacements_refusal theory theta) (replacements-other theory theta) passes result answers room.drawn }
-  where
-    passes : replacements_refusal theory theta ≡ None → may_replace theory theta ≡ true
-    passes none =
-        required theory (put_all theta) (put_all theta (image true_term)) (may_replace theory theta)
-        (inst-drawn theory theta (plain theory) (Ok (plain theory)) (ap (λ (o : Option Fault). or_too_large o true) none, plain-changed theory (put_all theta) refl)).drawn
-
-pub room-inst_type : {theory : Theory} {theta : List (HolType × HolType)} {a : Theorem} {result : Result Theorem Fault}
-    → AnswersSuch result (inst_type_refusal theory theta a) (IsInstType theory theta a)
-    → FindsRoom theory (rule_inst_type theta) (a ∷ []) result
-room-inst_type {theory} {theta} {a} {result} answers =
     record {
-      finds = λ room. changed-room theory (instantiate_all theta) a (may_replace_types theory theta) (type_replacements_refusal theory theta)
-          (type-replacements-other theory theta) passes result answers room.drawn;
+      finds = λ room. changed-room theory (put_all theta.items) a (may_replace theory theta.items) (replacements_refusal theory theta.items)
+          (replacements-other theory theta.items) passes result answers room.drawn;
     }
   where
-    passes : type_replacements_refusal theory theta ≡ None → may_replace_types theory theta ≡ true
+    passes : replacements_refusal theory theta.items ≡ None → may_replace theory theta.items ≡ true
     passes none =
-        required theory (instantiate_all theta) (instantiate_all theta (image true_term)) (may_replace_types theory theta)
-        (inst_type-drawn theory theta (plain theory) (Ok (plain theory)) (ap (λ (o : Option Fault). or_too_large o true) none, plain-changed theory (instantiate_all theta) refl)).drawn
+        required theory (put_all theta.items) (put_all theta.items (image true_term)) (may_replace theory theta.items)
+        (inst-drawn theory theta (plain theory) (Ok (plain theory)) (ap (λ (o : Option Fault). or_too_large o true) none, plain-changed theory (put_all theta.items) refl)).drawn
+
+pub room-inst_type : {theory : Theory} {theta : Vec (HolType × HolType) Global} {a : Theorem} {result : Result Theorem Fault}
+    → AnswersSuch result (inst_type_refusal theory theta.items a) (IsInstType theory theta.items a)
+    → FindsRoom theory (rules.InstType theta) (a ∷ []) result
+room-inst_type {theory} {theta} {a} {result} answers =
+    record {
+      finds = λ room. changed-room theory (instantiate_all theta.items) a (may_replace_types theory theta.items) (type_replacements_refusal theory theta.items)
+          (type-replacements-other theory theta.items) passes result answers room.drawn;
+    }
+  where
+    passes : type_replacements_refusal theory theta.items ≡ None → may_replace_types theory theta.items ≡ true
+    passes none =
+        required theory (instantiate_all theta.items) (instantiate_all theta.items (image true_term)) (may_replace_types theory theta.items)
+        (inst_type-drawn theory theta (plain theory) (Ok (plain theory)) (ap (λ (o : Option Fault). or_too_large o true) none, plain-changed theory (instantiate_all theta.items) refl)).drawn

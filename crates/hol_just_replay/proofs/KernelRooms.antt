@@ -20,7 +20,8 @@ use Rattle.hol_model.specs.Kernel.Rules.{assume_outcome, beta_outcome, trans_out
 use Rattle.hol_model.specs.Kernel.Rules.{deduct_antisym_outcome}
 use Rattle.hol_model.specs.Goals.Replays.{terms_of_sequent}
 use Rattle.hol_model.specs.Derived.DerivedRules.{is_roomy, terms_of_theorem}
-use Rattle.hol_model.specs.Derived.InferenceRules.{InferenceRule, rule_refl, rule_trans, rule_mk_comb, rule_abs, rule_beta, rule_assume, rule_eq_mp, rule_deduct_antisym}
+use Rattle.hol_model.specs.Derived.InferenceRules.{InferenceRule}
+use Rattle.hol_model.specs.declared.rule.Rule.TheVariants as rules
 use Rattle.hol_model.specs.Derived.Inference.{given, require, conclude, is_known_term, drawn}
 use Rattle.hol_model.proofs.Tests.{first_of_both, second_of_both, both, same_term-Decides}
 use Rattle.hol_model.proofs.Terms.Images.{image-typed, image-type, image-equation, application-typed}
@@ -97,20 +98,20 @@ walked-fits theory t body ty typed body_typed roomy = go (first_unknown theory t
         other fault found large = (subst (λ (o : Option Fault). IsNotLarge (refused {A = Theorem} o (Err Memory))) found (fits-refused {A = Theorem} theory t (Err Memory) (λ memory. cc))) large
 
 pub room-refl : {theory : Theory} {t : NamedTerm} {ty : HolType} {result : Result Theorem Fault} → type_of t ≡ Some ty
-    → Answers result (refl_outcome theory t) → FindsRoom theory (rule_refl t) [] result
-room-refl {theory} {t} {ty} {result} typed answers = kernel-room theory (rule_refl t) [] (refl_outcome theory t) result (λ room. walked-fits theory t t ty typed typed room.drawn) answers
+    → Answers result (refl_outcome theory t) → FindsRoom theory (rules.Refl t) [] result
+room-refl {theory} {t} {ty} {result} typed answers = kernel-room theory (rules.Refl t) [] (refl_outcome theory t) result (λ room. walked-fits theory t t ty typed typed room.drawn) answers
 
 pub assume-fits : (theory : Theory) (p : NamedTerm) → IsNotLarge (assume_outcome theory p)
 assume-fits theory p =
     let made : Theorem = record { theory = theory; hypotheses = p ∷ []; conclusion = p } in
     fits-unless {A = Theorem} (is_formula p) NotBool (refused (first_unknown theory p) (Ok made)) (λ is. cc) (fits-refused {A = Theorem} theory p (Ok made) tt)
 
-pub room-assume : {theory : Theory} {p : NamedTerm} {result : Result Theorem Fault} → Answers result (assume_outcome theory p) → FindsRoom theory (rule_assume p) [] result
-room-assume {theory} {p} {result} answers = kernel-room theory (rule_assume p) [] (assume_outcome theory p) result (λ room. assume-fits theory p) answers
+pub room-assume : {theory : Theory} {p : NamedTerm} {result : Result Theorem Fault} → Answers result (assume_outcome theory p) → FindsRoom theory (rules.Assume p) [] result
+room-assume {theory} {p} {result} answers = kernel-room theory (rules.Assume p) [] (assume_outcome theory p) result (λ room. assume-fits theory p) answers
 
 pub room-beta : {theory : Theory} {t : NamedTerm} {ty : HolType} {result : Result Theorem Fault} → IsLegal theory → type_of t ≡ Some ty
-    → Answers result (beta_outcome theory t) → FindsRoom theory (rule_beta t) [] result
-room-beta {theory} {t} {ty} {result} legal typed answers = kernel-room theory (rule_beta t) [] (beta_outcome theory t) result (λ room. go (dest_trivial_redex t) refl room.drawn) answers
+    → Answers result (beta_outcome theory t) → FindsRoom theory (rules.Beta t) [] result
+room-beta {theory} {t} {ty} {result} legal typed answers = kernel-room theory (rules.Beta t) [] (beta_outcome theory t) result (λ room. go (dest_trivial_redex t) refl room.drawn) answers
   where
     go : (found : Option NamedTerm) → dest_trivial_redex t ≡ found
         → are_roomy (terms_of_sequent (given
@@ -135,9 +136,9 @@ alike-typed m n s t left right same =
     cc
 
 pub room-trans : {theory : Theory} {a b : Theorem} {result : Result Theorem Fault} → IsLegal theory → IsPremise theory a → IsPremise theory b
-    → Answers result (trans_outcome theory a b) → FindsRoom theory rule_trans (a ∷ b ∷ []) result
+    → Answers result (trans_outcome theory a b) → FindsRoom theory rules.Trans (a ∷ b ∷ []) result
 room-trans {theory} {a} {b} {result} legal first second answers =
-    kernel-room theory rule_trans (a ∷ b ∷ []) (trans_outcome theory a b) result
+    kernel-room theory rules.Trans (a ∷ b ∷ []) (trans_outcome theory a b) result
     (λ room. go (dest_equation a.conclusion) refl (dest_equation b.conclusion) refl room.premises_roomy.0 room.premises_roomy.1.0) answers
   where
     h : List NamedTerm
@@ -167,9 +168,9 @@ room-trans {theory} {a} {b} {result} legal first second answers =
     go (Some (l, m)) one (Some (n, r)) two left right = meet l m n r one two left right (are_alpha_equivalent m n) refl
 
 pub room-mk_comb : {theory : Theory} {a b : Theorem} {result : Result Theorem Fault} → IsLegal theory → IsPremise theory a → IsPremise theory b
-    → Answers result (mk_comb_outcome theory a b) → FindsRoom theory rule_mk_comb (a ∷ b ∷ []) result
+    → Answers result (mk_comb_outcome theory a b) → FindsRoom theory rules.MkComb (a ∷ b ∷ []) result
 room-mk_comb {theory} {a} {b} {result} legal first second answers =
-    kernel-room theory rule_mk_comb (a ∷ b ∷ []) (mk_comb_outcome theory a b) result
+    kernel-room theory rules.MkComb (a ∷ b ∷ []) (mk_comb_outcome theory a b) result
     (λ room. go (dest_equation a.conclusion) refl (dest_equation b.conclusion) refl room.premises_roomy.0 room.premises_roomy.1.0) answers
   where
     h : List NamedTerm
@@ -202,8 +203,8 @@ room-mk_comb {theory} {a} {b} {result} legal first second answers =
     go (Some (f, g)) one None two left right = λ large. cc
     go (Some (f, g)) one (Some (x, y)) two left right = meet f g x y one two left right (type_of (combination f x)) refl
 
-pub room-eq_mp : {theory : Theory} {a b : Theorem} {result : Result Theorem Fault} → Answers result (eq_mp_outcome theory a b) → FindsRoom theory rule_eq_mp (a ∷ b ∷ []) result
-room-eq_mp {theory} {a} {b} {result} answers = kernel-room theory rule_eq_mp (a ∷ b ∷ []) (eq_mp_outcome theory a b) result (λ room. go (dest_equation a.conclusion)) answers
+pub room-eq_mp : {theory : Theory} {a b : Theorem} {result : Result Theorem Fault} → Answers result (eq_mp_outcome theory a b) → FindsRoom theory rules.EqMp (a ∷ b ∷ []) result
+room-eq_mp {theory} {a} {b} {result} answers = kernel-room theory rules.EqMp (a ∷ b ∷ []) (eq_mp_outcome theory a b) result (λ room. go (dest_equation a.conclusion)) answers
   where
     meet : (r : NamedTerm) (test : Bool) → IsNotLarge {A = Theorem} (unless test NotAlpha (Ok (record { theory = theory; hypotheses = with_hypotheses a.hypotheses b.hypotheses; conclusion = r })))
     meet r true = tt
@@ -217,10 +218,10 @@ room-eq_mp {theory} {a} {b} {result} answers = kernel-room theory rule_eq_mp (a 
     go (Some (l, r)) = meet r (are_alpha_equivalent l b.conclusion)
 
 pub room-deduct_antisym : {theory : Theory} {a b : Theorem} {result : Result Theorem Fault} → IsPremise theory a → IsPremise theory b → Answers result (deduct_antisym_outcome theory a b)
-    → FindsRoom theory rule_deduct_antisym (a ∷ b ∷ []) result
-room-deduct_antisym {theory} {a} {b} {result} first second answers = kernel-room theory rule_deduct_antisym (a ∷ b ∷ []) (deduct_antisym_outcome theory a b) result (λ room. fits room) answers
+    → FindsRoom theory rules.DeductAntisym (a ∷ b ∷ []) result
+room-deduct_antisym {theory} {a} {b} {result} first second answers = kernel-room theory rules.DeductAntisym (a ∷ b ∷ []) (deduct_antisym_outcome theory a b) result (λ room. fits room) answers
   where
-    fits : HasRoom theory rule_deduct_antisym (a ∷ b ∷ []) → IsNotLarge (deduct_antisym_outcome theory a b)
+    fits : HasRoom theory rules.DeductAntisym (a ∷ b ∷ []) → IsNotLarge (deduct_antisym_outcome theory a b)
     fits room =
         let left = (leaves_room (image a.conclusion) (first-roomy (image a.conclusion) (map image a.hypotheses) room.premises_roomy.0)).sized in
         let right = (leaves_room (image b.conclusion) (first-roomy (image b.conclusion) (map image b.hypotheses) room.premises_roomy.1.0)).sized in
@@ -272,9 +273,9 @@ variable-few : (name : List ℕ) (ty : HolType) → are_roomy (image (variable n
 variable-few name ty roomy = leb-true (type_nodes ty) 250 (leaves_room (image (variable name ty)) (first-roomy (image (variable name ty)) [] roomy)).types
 
 pub room-abs : {theory : Theory} {x : NamedTerm} {a : Theorem} {result : Result Theorem Fault} → IsLegal theory → IsPremise theory a
-    → Answers result (abs_outcome theory x a) → FindsRoom theory (rule_abs x) (a ∷ []) result
+    → Answers result (abs_outcome theory x a) → FindsRoom theory (rules.Abs x) (a ∷ []) result
 room-abs {theory} {x} {a} {result} legal premise answers =
-    kernel-room theory (rule_abs x) (a ∷ []) (abs_outcome theory x a) result (λ room. over x room.taken room.premises_roomy.0) answers
+    kernel-room theory (rules.Abs x) (a ∷ []) (abs_outcome theory x a) result (λ room. over x room.taken room.premises_roomy.0) answers
   where
     meet : (name : List ℕ) (ty : HolType) (l r : NamedTerm) → dest_equation a.conclusion ≡ Some (l, r) → type_nodes ty ≤ 250 → are_roomy (terms_of_theorem a) ≡ true → (known fresh : Bool)
         → IsNotLarge (unless known UnknownType (unless fresh FreeInHypothesis (concluded theory a.hypotheses (equation (abstraction name ty l) (abstraction name ty r)))))

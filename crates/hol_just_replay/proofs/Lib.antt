@@ -1,4 +1,3 @@
-pub mod Axioms
 pub mod Growing
 pub mod Premises
 pub mod RoomLemmas

@@ -7,11 +7,8 @@ use Rattle.hol_model.specs.Terms.Nameless.{Nameless}
 use Rattle.hol_model.specs.Logic.Theory.{Theory}
 use Rattle.hol_model.specs.Kernel.Theorem.{Theorem}
 use Rattle.hol_model.specs.Derived.Inference.{infer}
-use Rattle.hol_model.specs.Derived.InferenceRules.{InferenceRule, rule_refl, rule_trans, rule_mk_comb, rule_abs, rule_beta, rule_assume, rule_eq_mp}
-use Rattle.hol_model.specs.Derived.InferenceRules.{rule_deduct_antisym, rule_inst, rule_inst_type, rule_eta_axiom, rule_select_axiom, rule_sym}
-use Rattle.hol_model.specs.Derived.InferenceRules.{rule_add_assum, rule_prove_hyp, rule_eqt_intro, rule_eqt_elim, rule_beta_conv, rule_conj}
-use Rattle.hol_model.specs.Derived.InferenceRules.{rule_conjunct1, rule_conjunct2, rule_disch, rule_undisch, rule_mp, rule_spec, rule_gen, rule_disj1}
-use Rattle.hol_model.specs.Derived.InferenceRules.{rule_disj2, rule_disj_cases, rule_contr, rule_not_intro, rule_not_elim, rule_exists, rule_choose}
+use Rattle.hol_model.specs.Derived.InferenceRules.{InferenceRule}
+use Rattle.hol_model.specs.declared.rule.Rule.TheVariants as rules
 use Rattle.hol_journal.specs.Steps.{sequent_of_theorem}
 use Rattle.hol_journal.specs.Journal.{Recorded, theorem_in}
 use Rattle.hol_equal.specs.Inferred.{Infers}
@@ -19,40 +16,40 @@ use Rattle.hol_just_replay.specs.Outcomes.{lent_theorems, AnswersBy}
 use Rattle.hol_just_replay.proofs.KernelRooms.{room-refused}
 
 pub none_of_four : (theory : Theory) (rule : InferenceRule) (a b c d : Nameless) (rest : List Nameless) → infer theory rule (a ∷ b ∷ c ∷ d ∷ rest) ≡ None
-none_of_four theory (rule_refl t) a b c d rest = refl
-none_of_four theory rule_trans a b c d rest = refl
-none_of_four theory rule_mk_comb a b c d rest = refl
-none_of_four theory (rule_abs x) a b c d rest = refl
-none_of_four theory (rule_beta t) a b c d rest = refl
-none_of_four theory (rule_assume p) a b c d rest = refl
-none_of_four theory rule_eq_mp a b c d rest = refl
-none_of_four theory rule_deduct_antisym a b c d rest = refl
-none_of_four theory (rule_inst theta) a b c d rest = refl
-none_of_four theory (rule_inst_type theta) a b c d rest = refl
-none_of_four theory rule_eta_axiom a b c d rest = refl
-none_of_four theory rule_select_axiom a b c d rest = refl
-none_of_four theory rule_sym a b c d rest = refl
-none_of_four theory (rule_add_assum p) a b c d rest = refl
-none_of_four theory rule_prove_hyp a b c d rest = refl
-none_of_four theory rule_eqt_intro a b c d rest = refl
-none_of_four theory rule_eqt_elim a b c d rest = refl
-none_of_four theory (rule_beta_conv t) a b c d rest = refl
-none_of_four theory rule_conj a b c d rest = refl
-none_of_four theory rule_conjunct1 a b c d rest = refl
-none_of_four theory rule_conjunct2 a b c d rest = refl
-none_of_four theory (rule_disch p) a b c d rest = refl
-none_of_four theory rule_undisch a b c d rest = refl
-none_of_four theory rule_mp a b c d rest = refl
-none_of_four theory (rule_spec t) a b c d rest = refl
-none_of_four theory (rule_gen x) a b c d rest = refl
-none_of_four theory (rule_disj1 q) a b c d rest = refl
-none_of_four theory (rule_disj2 p) a b c d rest = refl
-none_of_four theory rule_disj_cases a b c d rest = refl
-none_of_four theory (rule_contr p) a b c d rest = refl
-none_of_four theory rule_not_intro a b c d rest = refl
-none_of_four theory rule_not_elim a b c d rest = refl
-none_of_four theory (rule_exists e w) a b c d rest = refl
-none_of_four theory (rule_choose v) a b c d rest = refl
+none_of_four theory (rules.Refl t) a b c d rest = refl
+none_of_four theory rules.Trans a b c d rest = refl
+none_of_four theory rules.MkComb a b c d rest = refl
+none_of_four theory (rules.Abs x) a b c d rest = refl
+none_of_four theory (rules.Beta t) a b c d rest = refl
+none_of_four theory (rules.Assume p) a b c d rest = refl
+none_of_four theory rules.EqMp a b c d rest = refl
+none_of_four theory rules.DeductAntisym a b c d rest = refl
+none_of_four theory (rules.Inst theta) a b c d rest = refl
+none_of_four theory (rules.InstType theta) a b c d rest = refl
+none_of_four theory rules.EtaAxiom a b c d rest = refl
+none_of_four theory rules.SelectAxiom a b c d rest = refl
+none_of_four theory rules.Sym a b c d rest = refl
+none_of_four theory (rules.AddAssum p) a b c d rest = refl
+none_of_four theory rules.ProveHyp a b c d rest = refl
+none_of_four theory rules.EqtIntro a b c d rest = refl
+none_of_four theory rules.EqtElim a b c d rest = refl
+none_of_four theory (rules.BetaConv t) a b c d rest = refl
+none_of_four theory rules.Conj a b c d rest = refl
+none_of_four theory rules.Conjunct1 a b c d rest = refl
+none_of_four theory rules.Conjunct2 a b c d rest = refl
+none_of_four theory (rules.Disch p) a b c d rest = refl
+none_of_four theory rules.Undisch a b c d rest = refl
+none_of_four theory rules.Mp a b c d rest = refl
+none_of_four theory (rules.Spec t) a b c d rest = refl
+none_of_four theory (rules.Gen x) a b c d rest = refl
+none_of_four theory (rules.Disj1 q) a b c d rest = refl
+none_of_four theory (rules.Disj2 p) a b c d rest = refl
+none_of_four theory rules.DisjCases a b c d rest = refl
+none_of_four theory (rules.Contr p) a b c d rest = refl
+none_of_four theory rules.NotIntro a b c d rest = refl
+none_of_four theory rules.NotElim a b c d rest = refl
+none_of_four theory (rules.Exists e w) a b c d rest = refl
+none_of_four theory (rules.Choose v) a b c d rest = refl
 
 pub too_many : (theory : Theory) (rule : InferenceRule) (premises : List Theorem) (fault : Fault) → 3 < length premises → Infers theory rule premises (Err fault)
 too_many theory rule [] fault many = absurd (omega arith)

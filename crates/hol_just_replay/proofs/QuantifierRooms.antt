@@ -14,7 +14,7 @@ use Rattle.hol_model.specs.Kernel.Rules.{first_unknown}
 use Rattle.hol_model.specs.Kernel.Theorem.{Theorem}
 use Rattle.hol_model.specs.Derived.DerivedRules.{Stated, is_roomy, images, stated, stated_up_to_names, body_with, is_of_type, is_free_in_some}
 use Rattle.hol_model.specs.Derived.DerivedRules.{AnswersStated, terms_of_theorem, spec_outcome, gen_outcome, exists_outcome, choose_outcome}
-use Rattle.hol_model.specs.Derived.InferenceRules.{rule_spec, rule_gen, rule_exists, rule_choose}
+use Rattle.hol_model.specs.declared.rule.Rule.TheVariants as rules
 use Rattle.hol_model.proofs.Tests.{first_of_both, second_of_both, both}
 use Rattle.hol_journal.specs.Journal.{Journal}
 use Rattle.hol_prelude.specs.HasLogic.{HasLogic}
@@ -27,9 +27,9 @@ use Rattle.hol_just_replay.proofs.DerivedRooms.{one-roomy, two-roomy, taken-room
 
 pub room-spec : {journal : Journal} {logic : Logic} {t : NamedTerm} {ty : HolType} {a : Theorem} {result : Result Theorem Fault}
     → HasLogic journal logic → IsLegal journal.theory → type_of t ≡ Some ty → IsPremise journal.theory a
-    → AnswersStated result (image t ∷ terms_of_theorem a) (spec_outcome journal.theory t a) → FindsRoom journal.theory (rule_spec t) (a ∷ []) result
+    → AnswersStated result (image t ∷ terms_of_theorem a) (spec_outcome journal.theory t a) → FindsRoom journal.theory (rules.Spec t) (a ∷ []) result
 room-spec {journal} {logic} {t} {ty} {a} {result} has legal typed premise answers =
-    stated-room journal.theory (rule_spec t) (a ∷ []) (image t ∷ terms_of_theorem a) (spec_outcome journal.theory t a) result
+    stated-room journal.theory (rules.Spec t) (a ∷ []) (image t ∷ terms_of_theorem a) (spec_outcome journal.theory t a) result
     (drawn-spec journal logic has legal t ty a typed premise) (go (dest_forall a.conclusion))
     (λ room. taken-roomy t (terms_of_theorem a) room.taken (one-roomy room)) answers
   where
@@ -43,9 +43,9 @@ room-spec {journal} {logic} {t} {ty} {a} {result} has legal typed premise answer
         (fits-refused journal.theory t (stated_up_to_names (images a) (body_with quantified t)) tt)
 
 pub room-gen : {theory : Theory} {x : NamedTerm} {a : Theorem} {result : Result Theorem Fault}
-    → AnswersStated result (terms_of_theorem a) (gen_outcome theory x a) → FindsRoom theory (rule_gen x) (a ∷ []) result
+    → AnswersStated result (terms_of_theorem a) (gen_outcome theory x a) → FindsRoom theory (rules.Gen x) (a ∷ []) result
 room-gen {theory} {x} {a} {result} answers =
-    stated-room theory (rule_gen x) (a ∷ []) (terms_of_theorem a) (gen_outcome theory x a) result (drawn-gen theory x a) (go (dest_variable x)) (λ room. one-roomy room) answers
+    stated-room theory (rules.Gen x) (a ∷ []) (terms_of_theorem a) (gen_outcome theory x a) result (drawn-gen theory x a) (go (dest_variable x)) (λ room. one-roomy room) answers
   where
     meet : (known fresh : Bool) (next : Result Stated Fault) → IsNotLarge next → IsNotLarge (unless known UnknownType (unless fresh FreeInHypothesis next))
     meet true true next fits = fits
@@ -60,13 +60,13 @@ room-gen {theory} {x} {a} {result} answers =
 
 pub room-exists : {journal : Journal} {logic : Logic} {e w : NamedTerm} {ty s : HolType} {a : Theorem} {result : Result Theorem Fault}
     → HasLogic journal logic → IsLegal journal.theory → type_of e ≡ Some ty → type_of w ≡ Some s
-    → AnswersStated result (image e ∷ image w ∷ terms_of_theorem a) (exists_outcome journal.theory e w a) → FindsRoom journal.theory (rule_exists e w) (a ∷ []) result
+    → AnswersStated result (image e ∷ image w ∷ terms_of_theorem a) (exists_outcome journal.theory e w a) → FindsRoom journal.theory (rules.Exists e w) (a ∷ []) result
 room-exists {journal} {logic} {e} {w} {ty} {s} {a} {result} has legal typed witness_typed answers =
-    stated-room journal.theory (rule_exists e w) (a ∷ []) (image e ∷ image w ∷ terms_of_theorem a) (exists_outcome journal.theory e w a) result
+    stated-room journal.theory (rules.Exists e w) (a ∷ []) (image e ∷ image w ∷ terms_of_theorem a) (exists_outcome journal.theory e w a) result
     (drawn-exists journal logic has legal e w ty s a typed witness_typed) (go (dest_exists e))
     (λ room. both-taken room) answers
   where
-    both-taken : HasRoom journal.theory (rule_exists e w) (a ∷ []) → are_roomy (image e ∷ image w ∷ terms_of_theorem a) ≡ true
+    both-taken : HasRoom journal.theory (rules.Exists e w) (a ∷ []) → are_roomy (image e ∷ image w ∷ terms_of_theorem a) ≡ true
     both-taken room =
         let two : (is_roomy (image w) && true) ≡ true = second_of_both (is_roomy (image e)) (is_roomy (image w) && true) room.taken in
         both (is_roomy (image e)) (are_roomy (image w ∷ terms_of_theorem a)) (first_of_both (is_roomy (image e)) (is_roomy (image w) && true) room.taken)
@@ -89,9 +89,9 @@ abbrev others : NamedTerm → Theorem → Abstracted → List Nameless
 others v b quantified = without (body_with quantified v) (images b)
 
 pub room-choose : {journal : Journal} {logic : Logic} {v : NamedTerm} {a b : Theorem} {result : Result Theorem Fault} → HasLogic journal logic → IsLegal journal.theory → IsPremise journal.theory a
-    → AnswersStated result (image v ∷ terms_of_theorem a ++ terms_of_theorem b) (choose_outcome journal.theory v a b) → FindsRoom journal.theory (rule_choose v) (a ∷ b ∷ []) result
+    → AnswersStated result (image v ∷ terms_of_theorem a ++ terms_of_theorem b) (choose_outcome journal.theory v a b) → FindsRoom journal.theory (rules.Choose v) (a ∷ b ∷ []) result
 room-choose {journal} {logic} {v} {a} {b} {result} has legal premise answers =
-    stated-room journal.theory (rule_choose v) (a ∷ b ∷ []) (image v ∷ terms_of_theorem a ++ terms_of_theorem b)
+    stated-room journal.theory (rules.Choose v) (a ∷ b ∷ []) (image v ∷ terms_of_theorem a ++ terms_of_theorem b)
     (choose_outcome journal.theory v a b) result (drawn-choose journal logic has legal v a b premise)
     (go (dest_variable v)) (λ room. taken-roomy v (terms_of_theorem a ++ terms_of_theorem b) room.taken (two-roomy room)) answers
   where

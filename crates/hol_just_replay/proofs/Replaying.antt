@@ -20,10 +20,10 @@ use Rattle.hol_model.proofs.Tests.{first_of_both, second_of_both}
 use Rattle.hol_laws_steps.proofs.Members.{list_all-fewer}
 use Rattle.hol_laws_steps.proofs.FewerHypotheses.{rules-monotone}
 use Rattle.hol_journal.specs.Journal.{Journal, Recorded, theorem_in}
-use Rattle.hol_journal.specs.Growth.{IsGrown}
+use Rattle.hol_journal.specs.Growth.{IsGrown, Continues, IsHeld}
 use Rattle.hol_journal.specs.Steps.{sequent_of_theorem}
 use Rattle.hol_journal.proofs.GrowthLemmas.{journals-grow}
-use Rattle.hol_equal.specs.Sequents.{Shows, IsHeld, Continues}
+use Rattle.hol_equal.specs.Sequents.{Shows}
 use Rattle.hol_equal.specs.Inferred.{IsDrawn, Infers}
 use Rattle.hol_just.specs.Flat.{FlatLine, cited, cited_parts, tree_of_line, trees_after, cites_below, cite_earlier}
 use Rattle.hol_just.specs.Lines.{flat_line, flat_lines}

@@ -13,7 +13,7 @@ use Rattle.hol_model.specs.Logic.Derivable.{IsMember}
 use Rattle.hol_model.specs.Logic.Logic.{false_name, false_term}
 use Rattle.hol_model.specs.Logic.NamedLogic.{false_term as named_false}
 use Rattle.hol_model.specs.Goals.Goals.{Sequent, Goal}
-use Rattle.hol_model.specs.Derived.InferenceRules.{rule_add_assum, rule_contr, rule_conj, rule_conjunct1}
+use Rattle.hol_model.specs.declared.rule.Rule.TheVariants as rules
 use Rattle.hol_model.specs.Derived.Inference.{given, require, is_known_formula, conclude, conclude_supposing, all, unchanged, drawn}
 use Rattle.hol_model.proofs.Terms.Membership.{of_append, IsMember-append_left, IsMember-append_right}
 use Rattle.hol_model.specs.Goals.ValidSteps.{false_twice}
@@ -28,13 +28,13 @@ use Rattle.hol_model.proofs.Terms.Images.{image-type}
 use Rattle.std.specs.List.{list_all}
 use Rattle.std.proofs.lemmas.List.Folds.{list_all-append, list_all_at}
 use Rattle.hol_journal.specs.Journal.{Journal, Recorded, IsMade, theorem_in}
-use Rattle.hol_journal.specs.Growth.{IsGrown}
+use Rattle.hol_journal.specs.Growth.{IsGrown, Continues}
 use Rattle.hol_journal.proofs.GrowthLemmas.{journals-grow}
 use Rattle.hol_prelude_derivations.specs.Derivations.{AreMade}
 use Rattle.hol_prelude.specs.declared.stored.Bool.{Bool as Stored}
 use Rattle.hol_prelude.specs.HasLogic.{HasLogic}
 use Rattle.hol_equal.specs.Formulas.{IsFormula}
-use Rattle.hol_equal.specs.Sequents.{Continues, Gives}
+use Rattle.hol_equal.specs.Sequents.{Gives}
 use Rattle.hol_equal.specs.Inferred.{IsDrawn, Infers}
 use Rattle.hol_bool.proofs.LogicLemmas.{logical-type}
 use Rattle.hol_equal.proofs.DrawnTerms.{one_premise, two_premises}
@@ -105,7 +105,7 @@ module _ (s t : Sequent) (to : (x : Nameless) → IsMember x s.hypotheses → Is
   moved (Err fault) drawn = drawn
 
 -- from `F` twice, `F /\ F`
-pub conjoined-drawn : (theory : Theory) (once : Theorem) (result : Result Theorem Fault) → IsDrawn (Some (falsity_from false_term)) (Ok once) → Infers theory rule_conj (once ∷ once ∷ []) result
+pub conjoined-drawn : (theory : Theory) (once : Theorem) (result : Result Theorem Fault) → IsDrawn (Some (falsity_from false_term)) (Ok once) → Infers theory rules.Conj (once ∷ once ∷ []) result
     → IsDrawn (Some (record { hypotheses = false_term ∷ []; conclusion = false_twice })) result
 conjoined-drawn theory once result shows infers =
     let h = map image once.hypotheses in
@@ -120,7 +120,7 @@ conjoined-drawn theory once result shows infers =
 -- from `F /\ F`, `F`
 pub conjunct-drawn : (theory : Theory) (assumed : Theorem) (result : Result Theorem Fault)
     → IsDrawn (Some (record { hypotheses = false_twice ∷ []; conclusion = false_twice })) (Ok assumed)
-    → Infers theory rule_conjunct1 (assumed ∷ []) result
+    → Infers theory rules.Conjunct1 (assumed ∷ []) result
     → IsDrawn (Some (falsity_from false_twice)) result
 conjunct-drawn theory assumed result shows infers =
     let h = map image assumed.hypotheses in
@@ -139,7 +139,7 @@ sequent-roomy : (sequent : Sequent) (theorem : Theorem) → IsDrawn (Some sequen
 sequent-roomy sequent theorem shows roomy = theorem-roomy (Some sequent) theorem shows roomy
 
 pub conjoined-fits : (theory : Theory) (once : Theorem) (result : Result Theorem Fault) → IsDrawn (Some (falsity_from false_term)) (Ok once)
-    → FindsRoom theory rule_conj (once ∷ once ∷ []) result → IsNotLarge result
+    → FindsRoom theory rules.Conj (once ∷ once ∷ []) result → IsNotLarge result
 conjoined-fits theory once result shows finds =
     let h = map image once.hypotheses in
     let roomy : are_roomy (terms_of_theorem once) ≡ true = sequent-roomy (falsity_from false_term) once shows refl in
@@ -156,7 +156,7 @@ conjoined-fits theory once result shows finds =
     })
 
 pub conjunct-fits : (theory : Theory) (assumed : Theorem) (result : Result Theorem Fault) → IsDrawn (Some (record { hypotheses = false_twice ∷ []; conclusion = false_twice })) (Ok assumed)
-    → FindsRoom theory rule_conjunct1 (assumed ∷ []) result → IsNotLarge result
+    → FindsRoom theory rules.Conjunct1 (assumed ∷ []) result → IsNotLarge result
 conjunct-fits theory assumed result shows finds =
     let h = map image assumed.hypotheses in
     let roomy : are_roomy (terms_of_theorem assumed) ≡ true = sequent-roomy (record { hypotheses = false_twice ∷ []; conclusion = false_twice }) assumed shows refl in
@@ -181,7 +181,7 @@ abbrev added_assumption : Theory → Nameless → List Nameless → Nameless →
 added_assumption theory p h c = given (require (is_known_formula theory p) (conclude_supposing (all ∷ []) p c)) (λ inference. drawn inference (h ∷ []))
 
 -- a theorem with one assumption more
-one-more : (theory : Theory) (p : NamedTerm) (rest : List NamedTerm) (made next : Theorem) (result : Result Theorem Fault) → Infers theory (rule_add_assum p) (made ∷ []) (Ok next)
+one-more : (theory : Theory) (p : NamedTerm) (rest : List NamedTerm) (made next : Theorem) (result : Result Theorem Fault) → Infers theory (rules.AddAssum p) (made ∷ []) (Ok next)
     → IsDrawn (with_assumptions theory (map image next.hypotheses) (image next.conclusion) rest) result
     → IsDrawn (with_assumptions theory (map image made.hypotheses) (image made.conclusion) (p ∷ rest)) result
 one-more theory p rest made next result infers drawn_rest = go (is_known_formula theory (image p)) infers.drawn (are_known_formulas theory rest) drawn_rest
@@ -216,7 +216,7 @@ here items at item within is = let next : suc at ≡ at + 1 = omega arith in dro
 
 -- what ADD_ASSUM and CONTR draw leaves room
 
-added-roomy : (theory : Theory) (p : NamedTerm) (made next : Theorem) → Infers theory (rule_add_assum p) (made ∷ []) (Ok next)
+added-roomy : (theory : Theory) (p : NamedTerm) (made next : Theorem) → Infers theory (rules.AddAssum p) (made ∷ []) (Ok next)
     → are_roomy (terms_of_theorem made) ≡ true → is_roomy (image p) ≡ true → are_roomy (terms_of_theorem next) ≡ true
 added-roomy theory p made next infers roomy p_roomy = theorem-roomy (added_assumption theory (image p) h (image made.conclusion)) next infers.drawn (go (is_known_formula theory (image p)))
   where
@@ -242,7 +242,7 @@ add_assum-fits theory p made result answers roomy p_roomy =
     list_all-append is_roomy (image p ∷ terms_of_theorem made) (c ∷ image p ∷ h) ∙ both (are_roomy (image p ∷ terms_of_theorem made)) (are_roomy (c ∷ image p ∷ h)) with_p drawn_roomy in
     walked-states theory p result (image p ∷ terms_of_theorem made) (record { hypotheses = image p ∷ h; conclusion = named made.conclusion }) all_roomy answers
 
-contr-roomy : (theory : Theory) (p : NamedTerm) (falsity made : Theorem) → Infers theory (rule_contr p) (falsity ∷ []) (Ok made)
+contr-roomy : (theory : Theory) (p : NamedTerm) (falsity made : Theorem) → Infers theory (rules.Contr p) (falsity ∷ []) (Ok made)
     → are_roomy (terms_of_theorem falsity) ≡ true → is_roomy (image p) ≡ true → are_roomy (terms_of_theorem made) ≡ true
 contr-roomy theory p falsity made infers roomy p_roomy =
     theorem-roomy (given (require (same_term (image falsity.conclusion) false_term && is_known_formula theory (image p))
@@ -286,7 +286,7 @@ contr-fits theory falsity goal result answers room = go (is_false falsity.conclu
     go true = walked-states theory goal.target result (image goal.target ∷ terms_of_theorem falsity) (record { hypotheses = images falsity; conclusion = named goal.target }) all_roomy
 
 -- the theorem of CONTR, and the goal's assumptions
-pub supposing-roomy : (theory : Theory) (falsity made : Theorem) (goal : Goal) → Infers theory (rule_contr goal.target) (falsity ∷ []) (Ok made)
+pub supposing-roomy : (theory : Theory) (falsity made : Theorem) (goal : Goal) → Infers theory (rules.Contr goal.target) (falsity ∷ []) (Ok made)
     → HasGoalRoom falsity goal → (are_roomy (terms_of_theorem made) ≡ true) × (are_roomy (map image goal.assumptions) ≡ true)
 supposing-roomy theory falsity made goal infers room = (
   contr-roomy theory goal.target falsity made infers room.falsity_roomy (first_of_both (is_roomy (image goal.target)) (are_roomy (map image goal.assumptions)) room.goal_roomy),
@@ -301,7 +301,7 @@ at-roomy items at item within is roomy =
 
 pub assumes-next : (old now new : Journal) (hypotheses : List Nameless) (conclusion : Nameless) (whole items : List NamedTerm) (at : ℕ)
     (item : NamedTerm) (made next : Recorded) → at < length items → item ≡ get_or items at item
-    → IsAssuming old now hypotheses conclusion whole (drop at items) made → Continues now new (Ok next) → Infers now.theory (rule_add_assum item) (made.theorem ∷ []) (Ok next.theorem)
+    → IsAssuming old now hypotheses conclusion whole (drop at items) made → Continues now new (Ok next) → Infers now.theory (rules.AddAssum item) (made.theorem ∷ []) (Ok next.theorem)
     → IsAssuming old new hypotheses conclusion whole (drop (at + 1) items) next
 assumes-next old now new hypotheses conclusion whole items at item made next within is assuming continues infers = record {
   grown = journals-grow.twice old now new assuming.grown continues.grown;
@@ -310,7 +310,7 @@ assumes-next old now new hypotheses conclusion whole items at item made next wit
   leads = λ result drawn_rest. assuming.leads result
       (subst (λ (left : List NamedTerm). IsDrawn (with_assumptions old.theory (map image made.theorem.hypotheses) (image made.theorem.conclusion) left) result) (sym (here items at item within is))
       (one-more old.theory item (drop (at + 1) items) made.theorem next.theorem result
-      (subst (λ (theory : Theory). Infers theory (rule_add_assum item) (made.theorem ∷ []) (Ok next.theorem)) assuming.theory infers)
+      (subst (λ (theory : Theory). Infers theory (rules.AddAssum item) (made.theorem ∷ []) (Ok next.theorem)) assuming.theory infers)
       drawn_rest));
   room = λ made_roomy all_roomy.
       let so_far = assuming.room made_roomy all_roomy in
@@ -331,7 +331,7 @@ assumes-fits old now hypotheses conclusion whole items at item made result withi
 
 -- what CONTR draws, then the assumptions
 pub contr-supposes : (theory : Theory) (falsity : Theorem) (goal : Goal) (made : Theorem) (result : Result Theorem Fault)
-    → image falsity.conclusion ≡ false_term → Infers theory (rule_contr goal.target) (falsity ∷ []) (Ok made)
+    → image falsity.conclusion ≡ false_term → Infers theory (rules.Contr goal.target) (falsity ∷ []) (Ok made)
     → IsDrawn (with_assumptions theory (map image made.hypotheses) (image made.conclusion) goal.assumptions) result → IsDrawn (supposed_from theory (map image falsity.hypotheses) goal) result
 contr-supposes theory falsity goal made result is_false infers drawn_rest =
     go (is_known_formula theory (image goal.target))
@@ -365,7 +365,7 @@ contr-supposes theory falsity goal made result is_false infers drawn_rest =
         ])
         shows.concludes result later
 
-pub contr-fails : (theory : Theory) (falsity : Theorem) (goal : Goal) (fault : Fault) → image falsity.conclusion ≡ false_term → Infers theory (rule_contr goal.target) (falsity ∷ []) (Err fault)
+pub contr-fails : (theory : Theory) (falsity : Theorem) (goal : Goal) (fault : Fault) → image falsity.conclusion ≡ false_term → Infers theory (rules.Contr goal.target) (falsity ∷ []) (Err fault)
     → IsDrawn (supposed_from theory (map image falsity.hypotheses) goal) (Err fault)
 contr-fails theory falsity goal fault is_false infers =
     go (is_known_formula theory (image goal.target))

@@ -15,8 +15,7 @@ use Rattle.hol_model.specs.Goals.Justifications.{NamedSequents, sequent_of}
 use Rattle.hol_model.specs.Goals.ValidSteps.{Step, supposed, PassesReplay}
 use Rattle.hol_model.specs.Goals.Replays.{AreKnownGoals, terms_of_goals, has_room}
 use Rattle.hol_journal.specs.Journal.{Journal, Recorded}
-use Rattle.hol_journal.specs.Growth.{IsGrown}
-use Rattle.hol_equal.specs.Sequents.{IsHeld}
+use Rattle.hol_journal.specs.Growth.{IsGrown, IsHeld}
 use Rattle.hol_equal.specs.Inferred.{IsDrawn}
 use Rattle.hol_prelude_derivations.specs.Derivations.{AreMade}
 use Rattle.hol_just_replay.specs.Room.{IsNotLarge, are_roomy}

@@ -3,9 +3,8 @@ ghost use Rattle.std.specs.Prelude.{◌≡◌, ◌<◌, [], ◌∷◌, length, E
 ghost use Rattle.hol_model.specs.declared.fault.Fault.TheVariants.{InvalidStep};
 ghost use Rattle.hol_journal.specs.Journal.{IsMade, theorem_in};
 ghost use Rattle.hol_prelude.specs.HasLogic.{HasLogic};
-ghost use Rattle.hol_equal.specs.Sequents.{Continues};
+ghost use Rattle.hol_journal.specs.Growth.{Continues};
 ghost use Rattle.hol_equal.specs.Inferred.{Infers};
-ghost use Rattle.hol_just.specs.Rules.{rule_of};
 ghost use Rattle.hol_just_replay.specs.Room.{FindsRoom};
 ghost use Rattle.hol_just_replay.specs.Outcomes.{AnswersBy, AreLent, lent_theorems};
 
@@ -14,7 +13,7 @@ use hol_bool::{
     not_elim, not_intro, primitive_rules_infer, undisch,
 };
 use hol_equal::{add_assum, beta_conv, conclusion_of, prove_hyp, sym};
-use hol_journal::{Rec, Recorder};
+use hol_journal::{Inference, Rec, Recorder};
 use hol_just::Rule;
 use hol_model::Fault;
 use hol_prelude::Bool;
@@ -34,27 +33,27 @@ fn refuse(recorder: &mut Recorder) -> Result<Rec, Fault>
 fn on_none(recorder: &mut Recorder, logic: &Bool, rule: &Rule) -> Result<Rec, Fault>
     requires logic { HasLogic recorder.old logic.now }
     ensures continues { Continues recorder.old recorder.new result }
-    ensures inferred { Infers recorder.old.theory (rule_of rule.now) [] (theorem_in result) }
-    ensures room { FindsRoom recorder.old.theory (rule_of rule.now) [] (theorem_in result) }
-    ensures outcome { AnswersBy recorder.old.theory (rule_of rule.now) [] (theorem_in result) }
+    ensures inferred { Infers recorder.old.theory rule.now [] (theorem_in result) }
+    ensures room { FindsRoom recorder.old.theory rule.now [] (theorem_in result) }
+    ensures outcome { AnswersBy recorder.old.theory rule.now [] (theorem_in result) }
 {
     recorder.theory_is_legal();
     primitive_rules_infer();
     match rule {
         Rule::Refl(t) => {
             let _type = t.ty();
-            recorder.refl(t)
+            recorder.infer(Inference::Refl(t))
         }
         Rule::Beta(t) => {
             let _type = t.ty();
-            recorder.beta(t)
+            recorder.infer(Inference::Beta(t))
         }
         Rule::Assume(p) => {
             let _type = p.ty();
-            recorder.assume(p)
+            recorder.infer(Inference::Assume(p))
         }
-        Rule::EtaAxiom => recorder.eta(),
-        Rule::SelectAxiom => recorder.select(),
+        Rule::EtaAxiom => recorder.infer(Inference::Eta),
+        Rule::SelectAxiom => recorder.infer(Inference::Select),
         Rule::BetaConv(t) => {
             let _type = t.ty();
             beta_conv(recorder, t)
@@ -69,16 +68,16 @@ fn on_one(recorder: &mut Recorder, logic: &Bool, rule: &Rule, premise: &Rec) -> 
     requires logic { HasLogic recorder.old logic.now }
     requires premise { IsMade recorder.old premise.now }
     ensures continues { Continues recorder.old recorder.new result }
-    ensures inferred { Infers recorder.old.theory (rule_of rule.now) (premise.now.theorem ∷ []) (theorem_in result) }
-    ensures room { FindsRoom recorder.old.theory (rule_of rule.now) (premise.now.theorem ∷ []) (theorem_in result) }
-    ensures outcome { AnswersBy recorder.old.theory (rule_of rule.now) (premise.now.theorem ∷ []) (theorem_in result) }
+    ensures inferred { Infers recorder.old.theory rule.now (premise.now.theorem ∷ []) (theorem_in result) }
+    ensures room { FindsRoom recorder.old.theory rule.now (premise.now.theorem ∷ []) (theorem_in result) }
+    ensures outcome { AnswersBy recorder.old.theory rule.now (premise.now.theorem ∷ []) (theorem_in result) }
 {
     let _premise = conclusion_of(recorder, premise);
     primitive_rules_infer();
     match rule {
-        Rule::Abs(x) => recorder.abs(x, premise),
-        Rule::Inst(theta) => recorder.inst(theta, premise),
-        Rule::InstType(theta) => recorder.inst_type(theta, premise),
+        Rule::Abs(x) => recorder.infer(Inference::Abs(x, premise)),
+        Rule::Inst(theta) => recorder.infer(Inference::Inst(theta, premise)),
+        Rule::InstType(theta) => recorder.infer(Inference::InstType(theta, premise)),
         Rule::Sym => sym(recorder, premise),
         Rule::AddAssum(p) => {
             let _type = p.ty();
@@ -134,18 +133,18 @@ fn on_two(
     requires first { IsMade recorder.old first.now }
     requires second { IsMade recorder.old second.now }
     ensures continues { Continues recorder.old recorder.new result }
-    ensures inferred { Infers recorder.old.theory (rule_of rule.now) (first.now.theorem ∷ second.now.theorem ∷ []) (theorem_in result) }
-    ensures room { FindsRoom recorder.old.theory (rule_of rule.now) (first.now.theorem ∷ second.now.theorem ∷ []) (theorem_in result) }
-    ensures outcome { AnswersBy recorder.old.theory (rule_of rule.now) (first.now.theorem ∷ second.now.theorem ∷ []) (theorem_in result) }
+    ensures inferred { Infers recorder.old.theory rule.now (first.now.theorem ∷ second.now.theorem ∷ []) (theorem_in result) }
+    ensures room { FindsRoom recorder.old.theory rule.now (first.now.theorem ∷ second.now.theorem ∷ []) (theorem_in result) }
+    ensures outcome { AnswersBy recorder.old.theory rule.now (first.now.theorem ∷ second.now.theorem ∷ []) (theorem_in result) }
 {
     let _first = conclusion_of(recorder, first);
     let _second = conclusion_of(recorder, second);
     primitive_rules_infer();
     match rule {
-        Rule::Trans => recorder.trans(first, second),
-        Rule::MkComb => recorder.mk_comb(first, second),
-        Rule::EqMp => recorder.eq_mp(first, second),
-        Rule::DeductAntisym => recorder.deduct_antisym(first, second),
+        Rule::Trans => recorder.infer(Inference::Trans(first, second)),
+        Rule::MkComb => recorder.infer(Inference::MkComb(first, second)),
+        Rule::EqMp => recorder.infer(Inference::EqMp(first, second)),
+        Rule::DeductAntisym => recorder.infer(Inference::DeductAntisym(first, second)),
         Rule::ProveHyp => prove_hyp(recorder, first, second),
         Rule::Conj => conj(recorder, logic, first, second),
         Rule::Mp => mp(recorder, logic, first, second),
@@ -169,9 +168,9 @@ fn on_three(
     requires second { IsMade recorder.old second.now }
     requires third { IsMade recorder.old third.now }
     ensures continues { Continues recorder.old recorder.new result }
-    ensures inferred { Infers recorder.old.theory (rule_of rule.now) (first.now.theorem ∷ second.now.theorem ∷ third.now.theorem ∷ []) (theorem_in result) }
-    ensures room { FindsRoom recorder.old.theory (rule_of rule.now) (first.now.theorem ∷ second.now.theorem ∷ third.now.theorem ∷ []) (theorem_in result) }
-    ensures outcome { AnswersBy recorder.old.theory (rule_of rule.now) (first.now.theorem ∷ second.now.theorem ∷ third.now.theorem ∷ []) (theorem_in result) }
+    ensures inferred { Infers recorder.old.theory rule.now (first.now.theorem ∷ second.now.theorem ∷ third.now.theorem ∷ []) (theorem_in result) }
+    ensures room { FindsRoom recorder.old.theory rule.now (first.now.theorem ∷ second.now.theorem ∷ third.now.theorem ∷ []) (theorem_in result) }
+    ensures outcome { AnswersBy recorder.old.theory rule.now (first.now.theorem ∷ second.now.theorem ∷ third.now.theorem ∷ []) (theorem_in result) }
 {
     let _first = conclusion_of(recorder, first);
     match rule {
@@ -185,9 +184,9 @@ fn on_three(
 fn refuse_many(recorder: &mut Recorder, rule: &Rule, premises: &[&Rec]) -> Result<Rec, Fault>
     requires { 3 < length premises.now }
     ensures continues { Continues recorder.old recorder.new result }
-    ensures inferred { Infers recorder.old.theory (rule_of rule.now) (lent_theorems premises.now) (theorem_in result) }
-    ensures room { FindsRoom recorder.old.theory (rule_of rule.now) (lent_theorems premises.now) (theorem_in result) }
-    ensures outcome { AnswersBy recorder.old.theory (rule_of rule.now) (lent_theorems premises.now) (theorem_in result) }
+    ensures inferred { Infers recorder.old.theory rule.now (lent_theorems premises.now) (theorem_in result) }
+    ensures room { FindsRoom recorder.old.theory rule.now (lent_theorems premises.now) (theorem_in result) }
+    ensures outcome { AnswersBy recorder.old.theory rule.now (lent_theorems premises.now) (theorem_in result) }
 {
     let _rule = rule;
     let _premises = premises.len();
@@ -207,9 +206,9 @@ pub fn apply_rule(
     requires logic { HasLogic recorder.old logic.now }
     requires premises { AreLent recorder.old premises.now }
     ensures continues { Continues recorder.old recorder.new result }
-    ensures inferred { Infers recorder.old.theory (rule_of rule.now) (lent_theorems premises.now) (theorem_in result) }
-    ensures room { FindsRoom recorder.old.theory (rule_of rule.now) (lent_theorems premises.now) (theorem_in result) }
-    ensures outcome { AnswersBy recorder.old.theory (rule_of rule.now) (lent_theorems premises.now) (theorem_in result) }
+    ensures inferred { Infers recorder.old.theory rule.now (lent_theorems premises.now) (theorem_in result) }
+    ensures room { FindsRoom recorder.old.theory rule.now (lent_theorems premises.now) (theorem_in result) }
+    ensures outcome { AnswersBy recorder.old.theory rule.now (lent_theorems premises.now) (theorem_in result) }
 {
     match premises {
         [] => on_none(recorder, logic, rule),

@@ -5,13 +5,11 @@ ghost use Rattle.hol_model.specs.declared.fault.Fault.TheVariants.{Memory, Inval
 ghost use Rattle.hol_model.specs.Goals.Justifications.{Justification};
 ghost use Rattle.hol_model.specs.Goals.Replays.{IsReplay};
 ghost use Rattle.hol_journal.specs.Journal.{Journal, IsMade, theorem_in};
-ghost use Rattle.hol_journal.specs.Growth.{IsGrown};
+ghost use Rattle.hol_journal.specs.Growth.{IsGrown, Continues, IsHeld};
 ghost use Rattle.hol_prelude_derivations.specs.Derivations.{AreMade};
 ghost use Rattle.hol_prelude.specs.HasLogic.{HasLogic};
-ghost use Rattle.hol_equal.specs.Sequents.{Continues, IsHeld};
 ghost use Rattle.hol_just.specs.Flat.{cites_below, cite_earlier, are_below, cited};
 ghost use Rattle.hol_just.specs.Lines.{flat_line, flat_lines};
-ghost use Rattle.hol_just.specs.Rules.{rule_of};
 ghost use Rattle.hol_just.specs.Steps.{tree_of};
 ghost use Rattle.hol_theorem_store.specs.Stored.{IsStoreOf, theorems_in};
 ghost use Rattle.hol_theorem_store.specs.Store.{stored_of};
@@ -87,7 +85,7 @@ fn by_rule(
     requires logic { HasLogic recorder.old logic.now }
     requires premises { AreLent recorder.old premises.now }
     ensures continues { ContinuesLine recorder.old recorder.new result }
-    ensures applied { IfOk result (Applies recorder.old.theory (rule_of rule.now) (lent_theorems premises.now)) }
+    ensures applied { IfOk result (Applies recorder.old.theory rule.now (lent_theorems premises.now)) }
     ensures err { IfErr result (λ fault. fault ≡ Memory) }
 {
     let outcome = apply_rule(recorder, logic, rule, premises);
@@ -106,7 +104,7 @@ fn rule_answer(
     requires held { AreHeldLines recorder.old answers.now }
     requires places { are_below (length answers.now) places.now ≡ true }
     ensures continues { ContinuesLine recorder.old recorder.new result }
-    ensures met { MeetsFrom recorder.old.theory (rule_of rule.now) answers.now places.now result }
+    ensures met { MeetsFrom recorder.old.theory rule.now answers.now places.now result }
     ensures err { IfErr result (λ fault. fault ≡ Memory) }
 {
     let count = places.len();

@@ -9,13 +9,12 @@ ghost use Rattle.hol_model.specs.Derived.Inference.{require};
 ghost use Rattle.hol_model.specs.Goals.ValidSteps.{false_twice};
 ghost use Rattle.hol_model.specs.Goals.Replays.{terms_of_goals};
 ghost use Rattle.hol_model.specs.Derived.DerivedRules.{terms_of_theorem, AnswersStated, add_assum_outcome, contr_outcome};
-ghost use Rattle.hol_model.specs.Derived.InferenceRules.{rule_add_assum, rule_contr};
+ghost use Rattle.hol_model.specs.declared.rule.Rule.TheVariants as rules;
 ghost use Rattle.hol_just_replay.specs.Room.{IsNotLarge, are_roomy};
 ghost use Rattle.hol_journal.specs.Journal.{IsMade, theorem_in};
-ghost use Rattle.hol_journal.specs.Growth.{IsGrown};
+ghost use Rattle.hol_journal.specs.Growth.{IsGrown, Continues, IsHeld};
 ghost use Rattle.hol_prelude_derivations.specs.Derivations.{AreMade};
 ghost use Rattle.hol_prelude.specs.HasLogic.{HasLogic};
-ghost use Rattle.hol_equal.specs.Sequents.{Continues, IsHeld};
 ghost use Rattle.hol_equal.specs.Formulas.{IsFormula};
 ghost use Rattle.hol_equal.specs.Inferred.{IsDrawn, Infers};
 ghost use Rattle.hol_just.specs.Steps.{goal_of, goals_of};
@@ -108,7 +107,7 @@ fn contr_unless_known(
     requires known { IsTrue is_known → IsFormula recorder.old.theory p.now }
     ensures continues { Continues recorder.old recorder.new result }
     ensures outcome { AnswersStated (theorem_in result) (image p.now ∷ terms_of_theorem premise.now.theorem) (contr_outcome recorder.old.theory p.now premise.now.theorem) }
-    ensures inferred { Infers recorder.old.theory (rule_contr p.now) (premise.now.theorem ∷ []) (theorem_in result) }
+    ensures inferred { Infers recorder.old.theory (rules.Contr p.now) (premise.now.theorem ∷ []) (theorem_in result) }
 {
     if is_known {
         return contr_known(recorder, logic, p, premise);
@@ -127,7 +126,7 @@ fn add_assum_unless_known(
     requires known { IsTrue is_known → IsFormula recorder.old.theory p.now }
     ensures continues { Continues recorder.old recorder.new result }
     ensures outcome { AnswersStated (theorem_in result) (image p.now ∷ terms_of_theorem premise.now.theorem) (add_assum_outcome recorder.old.theory p.now premise.now.theorem) }
-    ensures inferred { Infers recorder.old.theory (rule_add_assum p.now) (premise.now.theorem ∷ []) (theorem_in result) }
+    ensures inferred { Infers recorder.old.theory (rules.AddAssum p.now) (premise.now.theorem ∷ []) (theorem_in result) }
 {
     if is_known {
         return add_assum_known(recorder, p, premise);

@@ -18,7 +18,7 @@ use Rattle.hol_model.specs.Kernel.Theorem.{Theorem, are_alpha_equivalent}
 use Rattle.hol_model.specs.Kernel.Rules.{dest_equation, first_unknown, refl_outcome, trans_outcome}
 use Rattle.hol_model.specs.Derived.DerivedRules.{named, up_to_names, body_with, IsConclusion}
 use Rattle.hol_model.specs.Goals.Goals.{Goal}
-use Rattle.hol_model.specs.Derived.InferenceRules.{rule_conj, rule_refl}
+use Rattle.hol_model.specs.declared.rule.Rule.TheVariants as rules
 use Rattle.hol_model.proofs.Tests.{same_term-Decides}
 use Rattle.hol_model.specs.Goals.Justifications as tree
 use Rattle.hol_model.specs.Goals.ValidSteps.{Step, false_twice}
@@ -86,7 +86,7 @@ two-steps theory host store term = record {
 
 one-for-two : (host : Host) → OneForTwoIsRefused host
 one-for-two host theory store left =
-    tac.first_goes_on {step = record { goals = goal_of true_term ∷ goal_of true_term ∷ []; justification = tree.by_rule rule_conj (two_parts from_first from_second) }}
+    tac.first_goes_on {step = record { goals = goal_of true_term ∷ goal_of true_term ∷ []; justification = tree.by_rule rules.Conj (two_parts from_first from_second) }}
     (tac.leaf_refines refl ([], _, tt, refl, record { goals = (tt, refl, (tt, refl, tt)); justification = refl })) (tac.lengths_differ refl)
 
 not-run : (host : Host) → ListIsNotRun host
@@ -100,9 +100,9 @@ not-run host theory store left name ty = (
     x = variable name ty
 
     closed : Step
-    closed = record { goals = []; justification = tree.by_rule (rule_refl (variable name ty)) tree.no_parts }
+    closed = record { goals = []; justification = tree.by_rule (rules.Refl (variable name ty)) tree.no_parts }
 
-    closes : table store refl_tac (goal_of (equation (variable name ty) (variable name ty))) [] ≡ Ok (record { goals = []; justification = tree.by_rule (rule_refl (variable name ty)) tree.no_parts })
+    closes : table store refl_tac (goal_of (equation (variable name ty) (variable name ty))) [] ≡ Ok (record { goals = []; justification = tree.by_rule (rules.Refl (variable name ty)) tree.no_parts })
     closes = rw ((same_term-Decides (image (variable name ty)) (image (variable name ty))).1 refl) refl
 
 -- ---- a leaf

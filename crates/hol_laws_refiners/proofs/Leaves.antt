@@ -18,8 +18,7 @@ use Rattle.hol_model.specs.Kernel.Theorem.{Theorem, are_alpha_equivalent, withou
 use Rattle.hol_model.specs.Kernel.Rules.{dest_equation, is_formula}
 use Rattle.hol_model.specs.Derived.DerivedRules.{Conclusion, named, up_to_names, conclusion_image, body_with, is_of_type}
 use Rattle.hol_model.specs.Goals.Goals.{Sequent, Goal}
-use Rattle.hol_model.specs.Derived.InferenceRules.{rule_refl, rule_assume, rule_conj, rule_disj1, rule_disj2, rule_gen, rule_exists, rule_undisch, rule_deduct_antisym, rule_disch, rule_not_intro}
-use Rattle.hol_model.specs.Derived.InferenceRules.{rule_mp, rule_prove_hyp, rule_disj_cases, rule_choose}
+use Rattle.hol_model.specs.declared.rule.Rule.TheVariants as rules
 use Rattle.hol_model.proofs.Logic.Later.{Derivable-earlier}
 use Rattle.hol_model.proofs.Logic.Known.{IsKnownSequent, Derivable-known}
 use Rattle.hol_model.proofs.Terms.Images.{image-typed}
@@ -112,7 +111,7 @@ module _ (theory : Theory) (store : Store) (goal : Goal) (has : HasLogic theory)
 
   pub assumption-good : Good (table store assumption_tac goal [])
   assumption-good = good-unless theory store goal (is_assumed goal.target goal) RefineFails _ (λ assumed. record {
-    proves = with_none (ProvesBy target (tree.by_rule (rule_assume goal.target) tree.no_parts)) (by_assume theory h goal.target known.target (is_among-member target h assumed));
+    proves = with_none (ProvesBy target (tree.by_rule (rules.Assume goal.target) tree.no_parts)) (by_assume theory h goal.target known.target (is_among-member target h assumed));
     known = tt;
   })
 
@@ -120,8 +119,8 @@ module _ (theory : Theory) (store : Store) (goal : Goal) (has : HasLogic theory)
   assume-good name = good-given theory store goal (store.named name) UnknownName _ (λ theorem is.
       good-unless theory store goal (are_assumed theorem.hypotheses goal) RefineFails _ (λ assumed.
       record {
-        proves = with_one (assuming goal (named theorem.conclusion)) (ProvesBy target (tree.by_rule rule_prove_hyp (two_parts (tree.named name) from_first)))
-            (λ s met. of_two theory rule_prove_hyp h target h (h ++ image theorem.conclusion ∷ []) (image theorem.conclusion) target (option_map sequent_of_theorem (store.named name)) (Some s)
+        proves = with_one (assuming goal (named theorem.conclusion)) (ProvesBy target (tree.by_rule rules.ProveHyp (two_parts (tree.named name) from_first)))
+            (λ s met. of_two theory rules.ProveHyp h target h (h ++ image theorem.conclusion ∷ []) (image theorem.conclusion) target (option_map sequent_of_theorem (store.named name)) (Some s)
             (named-proves name theorem is assumed)
             (record { sequent = s; is_given = refl; same_conclusion = met.conclusion; included = meets-more goal.assumptions (named theorem.conclusion ∷ []) (named goal.target) s met })
             (λ a b a_is a_in b_is b_in. by_prove_hyp theory h (image theorem.conclusion) target a b a_is a_in b_is b_in));
@@ -137,8 +136,8 @@ module _ (theory : Theory) (store : Store) (goal : Goal) (has : HasLogic theory)
       good-unless theory store goal (are_alpha_equivalent sides.0 sides.1) RefineFails _ (λ same.
       let parts = equation-parts theory has.legal goal.target sides is known.target in
       record {
-        proves = with_none (ProvesBy target (tree.by_rule (rule_refl sides.0) tree.no_parts))
-            (subst (λ (c : Nameless). ProvesBy c (tree.by_rule (rule_refl sides.0) tree.no_parts) [])
+        proves = with_none (ProvesBy target (tree.by_rule (rules.Refl sides.0) tree.no_parts))
+            (subst (λ (c : Nameless). ProvesBy c (tree.by_rule (rules.Refl sides.0) tree.no_parts) [])
             (ap (λ right. nameless_equation parts.ty (image sides.0) right) ((same_term-Decides (image sides.0) (image sides.1)).0 same) ∙ sym parts.same)
             (by_refl theory h sides.0 parts.ty parts.left));
         known = tt;
@@ -152,7 +151,7 @@ module _ (theory : Theory) (store : Store) (goal : Goal) (has : HasLogic theory)
   pub conj-good : Good (table store conj_tac goal [])
   conj-good = good-given theory store goal (dest_conjunction goal.target) BadShape _ (λ sides is.
       let parts = connected-parts theory and_name (logical-type theory has and_name binary refl) goal.target sides is known.target in
-      let justification : tree.Justification = tree.by_rule rule_conj (two_parts from_first from_second) in
+      let justification : tree.Justification = tree.by_rule rules.Conj (two_parts from_first from_second) in
       record {
         proves = with_two (toward goal (named sides.0)) (toward goal (named sides.1)) (ProvesBy target justification)
             (λ s t m n. sides-of and_name sides parts justification (s ∷ t ∷ [])
@@ -163,7 +162,7 @@ module _ (theory : Theory) (store : Store) (goal : Goal) (has : HasLogic theory)
   pub disj1-good : Good (table store disj1_tac goal [])
   disj1-good = good-given theory store goal (dest_disjunction goal.target) BadShape _ (λ sides is.
       let parts = connected-parts theory or_name (logical-type theory has or_name binary refl) goal.target sides is known.target in
-      let justification : tree.Justification = tree.by_rule (rule_disj1 sides.1) (one_part from_first) in
+      let justification : tree.Justification = tree.by_rule (rules.Disj1 sides.1) (one_part from_first) in
       record {
         proves = with_one (toward goal (named sides.0)) (ProvesBy target justification)
             (λ s m. sides-of or_name sides parts justification (s ∷ [])
@@ -174,7 +173,7 @@ module _ (theory : Theory) (store : Store) (goal : Goal) (has : HasLogic theory)
   pub disj2-good : Good (table store disj2_tac goal [])
   disj2-good = good-given theory store goal (dest_disjunction goal.target) BadShape _ (λ sides is.
       let parts = connected-parts theory or_name (logical-type theory has or_name binary refl) goal.target sides is known.target in
-      let justification : tree.Justification = tree.by_rule (rule_disj2 sides.0) (one_part from_first) in
+      let justification : tree.Justification = tree.by_rule (rules.Disj2 sides.0) (one_part from_first) in
       record {
         proves = with_one (toward goal (named sides.1)) (ProvesBy target justification)
             (λ s m. sides-of or_name sides parts justification (s ∷ [])
@@ -205,13 +204,13 @@ module _ (theory : Theory) (store : Store) (goal : Goal) (has : HasLogic theory)
       let left : IsKnown theory (image sides.0) bool_type = subst (IsKnown theory (image sides.0)) (sym bool_is) parts.left in
       let right : IsKnown theory (image sides.1) bool_type = subst (IsKnown theory (image sides.1)) (sym bool_is) parts.right in
       let same : target ≡ nameless_equation bool_type (image sides.0) (image sides.1) = parts.same ∙ ap (λ ty. nameless_equation ty (image sides.0) (image sides.1)) (sym bool_is) in
-      let back : tree.Justification = tree.by_rule rule_undisch (one_part from_second) in
-      let forth : tree.Justification = tree.by_rule rule_undisch (one_part from_first) in
-      let justification : tree.Justification = tree.by_rule rule_deduct_antisym (two_parts back forth) in
+      let back : tree.Justification = tree.by_rule rules.Undisch (one_part from_second) in
+      let forth : tree.Justification = tree.by_rule rules.Undisch (one_part from_first) in
+      let justification : tree.Justification = tree.by_rule rules.DeductAntisym (two_parts back forth) in
       record {
         proves = with_two (toward goal (named (implication sides.0 sides.1))) (toward goal (named (implication sides.1 sides.0))) (ProvesBy target justification)
             (λ s t m n. subst (λ (c : Nameless). ProvesBy c justification (s ∷ t ∷ [])) (sym same)
-            (of_two theory rule_deduct_antisym h (nameless_equation bool_type (image sides.0) (image sides.1)) (h ++ image sides.1 ∷ []) (h ++ image sides.0 ∷ []) (image sides.0) (image sides.1)
+            (of_two theory rules.DeductAntisym h (nameless_equation bool_type (image sides.0) (image sides.1)) (h ++ image sides.1 ∷ []) (h ++ image sides.0 ∷ []) (image sides.0) (image sides.1)
             (sequent_of theory (sequents_in store) (s ∷ t ∷ []) back) (sequent_of theory (sequents_in store) (s ∷ t ∷ []) forth)
             (by_undisch theory (h ++ image sides.1 ∷ []) (image sides.1) (image sides.0) t n.conclusion (included-more t.hypotheses (image sides.1) (taken (implication sides.1 sides.0) t n))
             (last-member (image sides.1)))
@@ -231,7 +230,7 @@ module _ (theory : Theory) (store : Store) (goal : Goal) (has : HasLogic theory)
       → Good (discharged goal sides negated)
   discharged-good (Some sides) negated is or =
       let parts = connected-parts theory implies_name implies goal.target sides is known.target in
-      let justification : tree.Justification = tree.by_rule (rule_disch sides.0) (one_part from_first) in
+      let justification : tree.Justification = tree.by_rule (rules.Disch sides.0) (one_part from_first) in
       record {
         proves = with_one (from_assumptions goal.assumptions (named sides.0 ∷ []) (named sides.1)) (ProvesBy target justification)
             (λ s m. sides-of implies_name sides parts justification (s ∷ [])
@@ -240,12 +239,12 @@ module _ (theory : Theory) (store : Store) (goal : Goal) (has : HasLogic theory)
       }
   discharged-good None (Some p) is or =
       let part = negated-part theory (logical-type theory has not_name unary refl) goal.target p or known.target in
-      let inner : tree.Justification = tree.by_rule (rule_disch p) (one_part from_first) in
-      let justification : tree.Justification = tree.by_rule rule_not_intro (one_part inner) in
+      let inner : tree.Justification = tree.by_rule (rules.Disch p) (one_part from_first) in
+      let justification : tree.Justification = tree.by_rule rules.NotIntro (one_part inner) in
       record {
         proves = with_one (from_assumptions goal.assumptions (named p ∷ []) (named false_term)) (ProvesBy target justification)
             (λ s m. subst (λ (c : Nameless). ProvesBy c justification (s ∷ [])) (sym part.same)
-            (of_one theory rule_not_intro h (app (const not_name unary) (image p)) h (image (implication p false_term)) (sequent_of theory (sequents_in store) (s ∷ []) inner)
+            (of_one theory rules.NotIntro h (app (const not_name unary) (image p)) h (image (implication p false_term)) (sequent_of theory (sequents_in store) (s ∷ []) inner)
             (by_disch theory h (image p) (image false_term) p s refl part.known m.conclusion (meets-more goal.assumptions (named p ∷ []) (named false_term) s m))
             (λ a a_is a_in. by_not_intro theory h (image p) a a_is a_in)));
         known = (
@@ -264,10 +263,10 @@ module _ (theory : Theory) (store : Store) (goal : Goal) (has : HasLogic theory)
       good-unless theory store goal (are_assumed theorem.hypotheses goal) RefineFails _ (λ assumed.
       good-unless theory store goal (nameless_within_limits (image (implication theorem.conclusion goal.target))) TooLarge _ (λ fits.
       let p : Nameless = image theorem.conclusion in
-      let justification : tree.Justification = tree.by_rule rule_mp (two_parts from_first (tree.named name)) in
+      let justification : tree.Justification = tree.by_rule rules.Mp (two_parts from_first (tree.named name)) in
       record {
         proves = with_one (toward goal (named (implication theorem.conclusion goal.target))) (ProvesBy target justification)
-            (λ s m. of_two theory rule_mp h target h h (image (implication theorem.conclusion goal.target)) p (Some s) (option_map sequent_of_theorem (store.named name))
+            (λ s m. of_two theory rules.Mp h target h h (image (implication theorem.conclusion goal.target)) p (Some s) (option_map sequent_of_theorem (store.named name))
             (record { sequent = s; is_given = refl; same_conclusion = m.conclusion; included = taken (implication theorem.conclusion goal.target) s m })
             (named-proves name theorem is assumed)
             (λ a b a_is a_in b_is b_in. by_mp theory h p target a b a_is a_in b_is b_in));
@@ -279,10 +278,10 @@ module _ (theory : Theory) (store : Store) (goal : Goal) (has : HasLogic theory)
       good-given theory store goal (dest_disjunction theorem.conclusion) BadShape _ (λ sides dest.
       good-unless theory store goal (are_assumed theorem.hypotheses goal) RefineFails _ (λ assumed.
       let parts = connected-parts theory or_name (logical-type theory has or_name binary refl) theorem.conclusion sides dest (known-theorem name theorem is).conclusion in
-      let justification : tree.Justification = tree.by_rule rule_disj_cases (three_parts (tree.named name) from_first from_second) in
+      let justification : tree.Justification = tree.by_rule rules.DisjCases (three_parts (tree.named name) from_first from_second) in
       record {
         proves = with_two (assuming goal (named sides.0)) (assuming goal (named sides.1)) (ProvesBy target justification)
-            (λ s t m n. of_three theory rule_disj_cases h target h (h ++ image sides.0 ∷ []) (h ++ image sides.1 ∷ []) (disjunction (image sides.0) (image sides.1)) target target
+            (λ s t m n. of_three theory rules.DisjCases h target h (h ++ image sides.0 ∷ []) (h ++ image sides.1 ∷ []) (disjunction (image sides.0) (image sides.1)) target target
             (option_map sequent_of_theorem (store.named name)) (Some s) (Some t)
             (subst (λ (c : Nameless). Proves h c (option_map sequent_of_theorem (store.named name))) parts.same (named-proves name theorem is assumed))
             (record { sequent = s; is_given = refl; same_conclusion = m.conclusion; included = meets-more goal.assumptions (named sides.0 ∷ []) (named goal.target) s m })
@@ -317,7 +316,7 @@ module _ (theory : Theory) (store : Store) (goal : Goal) (has : HasLogic theory)
       let body : Nameless = close q.name q.ty (image q.body) in
       let absent : occurs_free fresh q.ty body ≡ false = subst (λ (t : Nameless). occurs_free fresh q.ty t ≡ false) parts.same (not-taken fresh q.ty new.is_fresh goal.target (inl refl)) in
       let same : conclusion_image (renamed_body q fresh) ≡ made = renamed_body-image q fresh bool_type parts.body_typed in
-      let justification : tree.Justification = tree.by_rule (rule_gen (variable fresh q.ty)) (one_part from_first) in
+      let justification : tree.Justification = tree.by_rule (rules.Gen (variable fresh q.ty)) (one_part from_first) in
       record {
         proves = with_one (toward goal (renamed_body q fresh)) (ProvesBy target justification)
             (λ s m. subst (λ (c : Nameless). ProvesBy c justification (s ∷ [])) (sym parts.same)
@@ -337,7 +336,7 @@ module _ (theory : Theory) (store : Store) (goal : Goal) (has : HasLogic theory)
       let parts = quantified-parts theory exists_name (logical-type theory has exists_name (quantifier type_a) refl) goal.target q is known.target in
       let body : Nameless = close q.name q.ty (image q.body) in
       let at : IsKnown theory (image witness) q.ty = record { typed = image-typed witness q.ty (is_of_type-type q.ty witness typed); parts = witness_known.parts } in
-      let justification : tree.Justification = tree.by_rule (rule_exists goal.target witness) (one_part from_first) in
+      let justification : tree.Justification = tree.by_rule (rules.Exists goal.target witness) (one_part from_first) in
       record {
         proves = with_one (toward goal (up_to_names made)) (ProvesBy target justification)
             (λ s m. by_exists theory h goal.target witness q.ty body s parts.same known.target at m.conclusion (meets-none goal.assumptions (up_to_names made) s m));
@@ -359,10 +358,10 @@ module _ (theory : Theory) (store : Store) (goal : Goal) (has : HasLogic theory)
       let body : Nameless = close q.name q.ty (image q.body) in
       let whole : Nameless = app (const exists_name (quantifier q.ty)) (lam q.ty body) in
       let same : conclusion_image (renamed_body q fresh) ≡ made = renamed_body-image q fresh bool_type parts.body_typed in
-      let justification : tree.Justification = tree.by_rule (rule_choose (variable fresh q.ty)) (two_parts (tree.named name) from_first) in
+      let justification : tree.Justification = tree.by_rule (rules.Choose (variable fresh q.ty)) (two_parts (tree.named name) from_first) in
       record {
         proves = with_one (assuming goal (renamed_body q fresh)) (ProvesBy target justification)
-            (λ s m. of_two theory (rule_choose (variable fresh q.ty)) h target h (h ++ made ∷ []) whole target (option_map sequent_of_theorem (store.named name)) (Some s)
+            (λ s m. of_two theory (rules.Choose (variable fresh q.ty)) h target h (h ++ made ∷ []) whole target (option_map sequent_of_theorem (store.named name)) (Some s)
             (subst (λ (c : Nameless). Proves h c (option_map sequent_of_theorem (store.named name))) parts.same (named-proves name theorem is assumed))
             (record {
               sequent = s;
@@ -399,7 +398,7 @@ module _ (theory : Theory) (store : Store) (goal : Goal) (has : HasLogic theory)
       let there : IsMember (image p) h = is_among-member (image p) h assumed in
       let p_known : IsKnown theory (image p) bool_type = assumptions_known (image p) there in
       let fewer : List NamedTerm = without_hypothesis p goal.assumptions in
-      let justification : tree.Justification = tree.by_rule rule_undisch (one_part from_first) in
+      let justification : tree.Justification = tree.by_rule rules.Undisch (one_part from_first) in
       record {
         proves = with_one (from_assumptions fewer [] (named (implication p goal.target))) (ProvesBy target justification)
             (λ s m. by_undisch theory h (image p) target s m.conclusion (λ x member. without-included p goal.assumptions x (meets-none fewer (named (implication p goal.target)) s m x member)) there);

@@ -15,7 +15,7 @@ use Rattle.hol_model.specs.Kernel.Theorem.{Theorem}
 use Rattle.hol_model.specs.Kernel.Rules.{is_formula, first_unknown}
 use Rattle.hol_model.specs.Derived.DerivedRules.{Stated, States, stated, named}
 use Rattle.hol_model.specs.Goals.Goals.{Sequent, Goal}
-use Rattle.hol_model.specs.Derived.InferenceRules.{rule_eq_mp, rule_sym, rule_eqt_elim}
+use Rattle.hol_model.specs.declared.rule.Rule.TheVariants as rules
 use Rattle.hol_model.proofs.Logic.Later.{Derivable-earlier}
 use Rattle.hol_model.proofs.Logic.Known.{Derivable-known, equation-sides}
 use Rattle.hol_model.specs.Goals.Justifications as tree
@@ -110,23 +110,23 @@ module _ (theory : Theory) (store : Store) (goal : Goal) (theorem : Theorem) whe
       right_known : IsKnown theory (image right) bool_type
       right_known = (equation-sides theory bool_type (image goal.target) (image right) equation_known).right
 
-      go : (test : Bool) → is_true right ≡ test → IsGoodStated theory after goal (if test then record { goals = []; justification = tree.by_rule rule_eqt_elim (one_part last) }
-          else record { goals = toward goal (named right) ∷ []; justification = tree.by_rule rule_eq_mp (two_parts (tree.by_rule rule_sym (one_part last)) from_first) })
+      go : (test : Bool) → is_true right ≡ test → IsGoodStated theory after goal (if test then record { goals = []; justification = tree.by_rule rules.EqtElim (one_part last) }
+          else record { goals = toward goal (named right) ∷ []; justification = tree.by_rule rules.EqMp (two_parts (tree.by_rule rules.Sym (one_part last)) from_first) })
       go true is =
           let right_is : image right ≡ true_term = constant-is theory true_name right bool_type (logical-type theory has true_name bool_type refl) is right_known in
           record {
-            proves = with_none (λ sequents. Proves h (image goal.target) (sequent_of theory (sequents_in after) sequents (tree.by_rule rule_eqt_elim (one_part last))))
-                (of_one theory rule_eqt_elim h (image goal.target) h (nameless_equation bool_type (image goal.target) true_term) (sequent_of theory (sequents_in after) [] last)
+            proves = with_none (λ sequents. Proves h (image goal.target) (sequent_of theory (sequents_in after) sequents (tree.by_rule rules.EqtElim (one_part last))))
+                (of_one theory rules.EqtElim h (image goal.target) h (nameless_equation bool_type (image goal.target) true_term) (sequent_of theory (sequents_in after) [] last)
                 (subst (λ (t : Nameless). Proves h (nameless_equation bool_type (image goal.target) t) (sequent_of theory (sequents_in after) [] last)) right_is (lemma_is []))
                 (λ a a_is a_in. by_eqt_elim theory h (image goal.target) a a_is a_in));
             known = tt;
           }
       go false is = record {
         proves = with_one (toward goal (named right)) (λ sequents. Proves h (image goal.target)
-            (sequent_of theory (sequents_in after) sequents (tree.by_rule rule_eq_mp (two_parts (tree.by_rule rule_sym (one_part last)) from_first))))
-            (λ s m. of_two theory rule_eq_mp h (image goal.target) h h (nameless_equation bool_type (image right) (image goal.target)) (image right)
-            (sequent_of theory (sequents_in after) (s ∷ []) (tree.by_rule rule_sym (one_part last))) (Some s)
-            (of_one theory rule_sym h (nameless_equation bool_type (image right) (image goal.target)) h (nameless_equation bool_type (image goal.target) (image right))
+            (sequent_of theory (sequents_in after) sequents (tree.by_rule rules.EqMp (two_parts (tree.by_rule rules.Sym (one_part last)) from_first))))
+            (λ s m. of_two theory rules.EqMp h (image goal.target) h h (nameless_equation bool_type (image right) (image goal.target)) (image right)
+            (sequent_of theory (sequents_in after) (s ∷ []) (tree.by_rule rules.Sym (one_part last))) (Some s)
+            (of_one theory rules.Sym h (nameless_equation bool_type (image right) (image goal.target)) h (nameless_equation bool_type (image goal.target) (image right))
             (sequent_of theory (sequents_in after) (s ∷ []) last)
             (lemma_is (s ∷ [])) (λ a a_is a_in. by_sym theory h (image goal.target) (image right) a a_is a_in))
             (record { sequent = s; is_given = refl; same_conclusion = m.conclusion; included = meets-none goal.assumptions (named right) s m })

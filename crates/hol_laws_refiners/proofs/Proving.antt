@@ -12,8 +12,8 @@ use Rattle.hol_model.specs.Logic.Logic.{true_term, false_term, conjunction, impl
 use Rattle.hol_model.specs.Logic.NamelessLogic.{disjunction, negation, dest_exists}
 use Rattle.hol_model.specs.Goals.Goals.{Sequent}
 use Rattle.hol_model.specs.Derived.DerivedRules.{is_among}
-use Rattle.hol_model.specs.Derived.InferenceRules.{InferenceRule, rule_refl, rule_assume, rule_eq_mp, rule_deduct_antisym, rule_sym, rule_prove_hyp, rule_eqt_elim, rule_conj, rule_disch}
-use Rattle.hol_model.specs.Derived.InferenceRules.{rule_undisch, rule_mp, rule_gen, rule_disj1, rule_disj2, rule_disj_cases, rule_not_intro, rule_exists, rule_choose}
+use Rattle.hol_model.specs.Derived.InferenceRules.{InferenceRule}
+use Rattle.hol_model.specs.declared.rule.Rule.TheVariants as rules
 use Rattle.hol_model.specs.Derived.Inference.{infer, require, conclude, all, all_but_without_variable, given, drawn, rule_sequent, unchanged, is_free_in_none, is_known_term, is_known_formula}
 use Rattle.hol_model.proofs.Logic.Checks.{knows_nameless-Decides}
 use Rattle.hol_model.proofs.Terms.TypeTests.{knows_type-Decides}
@@ -145,92 +145,92 @@ exists-shape ty body = rw (same_variable-self exists_name (quantifier ty)) refl
 
 module _ (theory : Theory) (h : List Nameless) where
   pub by_conj : (p q : Nameless) (s t : Sequent) → s.conclusion ≡ p → Includes s.hypotheses h → t.conclusion ≡ q → Includes t.hypotheses h
-      → Proves h (conjunction p q) (rule_sequent theory rule_conj (s ∷ t ∷ []))
-  by_conj p q s t is a js b = at_two theory rule_conj h (conjunction p q) s t p q is js (proved h _ (from_two s.hypotheses t.hypotheses h a b))
+      → Proves h (conjunction p q) (rule_sequent theory rules.Conj (s ∷ t ∷ []))
+  by_conj p q s t is a js b = at_two theory rules.Conj h (conjunction p q) s t p q is js (proved h _ (from_two s.hypotheses t.hypotheses h a b))
 
   pub by_disj1 : (p q : Nameless) (right : NamedTerm) (s : Sequent) → image right ≡ q → IsKnown theory q bool_type → s.conclusion ≡ p → Includes s.hypotheses h
-      → Proves h (disjunction p q) (rule_sequent theory (rule_disj1 right) (s ∷ []))
+      → Proves h (disjunction p q) (rule_sequent theory (rules.Disj1 right) (s ∷ []))
   by_disj1 p q right s same known is a =
       let test : is_known_formula theory (image right) ≡ true = known_formula theory (image right) (subst (λ (t : Nameless). IsKnown theory t bool_type) (sym same) known) in
-      subst (λ (x : Nameless). Proves h (disjunction p x) (rule_sequent theory (rule_disj1 right) (s ∷ []))) same
-      (at_one theory (rule_disj1 right) h (disjunction p (image right)) s p is (rw test (proved h _ (from_one s.hypotheses h a))))
+      subst (λ (x : Nameless). Proves h (disjunction p x) (rule_sequent theory (rules.Disj1 right) (s ∷ []))) same
+      (at_one theory (rules.Disj1 right) h (disjunction p (image right)) s p is (rw test (proved h _ (from_one s.hypotheses h a))))
 
   pub by_disj2 : (p q : Nameless) (left : NamedTerm) (s : Sequent) → image left ≡ p → IsKnown theory p bool_type → s.conclusion ≡ q → Includes s.hypotheses h
-      → Proves h (disjunction p q) (rule_sequent theory (rule_disj2 left) (s ∷ []))
+      → Proves h (disjunction p q) (rule_sequent theory (rules.Disj2 left) (s ∷ []))
   by_disj2 p q left s same known is a =
       let test : is_known_formula theory (image left) ≡ true = known_formula theory (image left) (subst (λ (t : Nameless). IsKnown theory t bool_type) (sym same) known) in
-      subst (λ (x : Nameless). Proves h (disjunction x q) (rule_sequent theory (rule_disj2 left) (s ∷ []))) same
-      (at_one theory (rule_disj2 left) h (disjunction (image left) q) s q is (rw test (proved h _ (from_one s.hypotheses h a))))
+      subst (λ (x : Nameless). Proves h (disjunction x q) (rule_sequent theory (rules.Disj2 left) (s ∷ []))) same
+      (at_one theory (rules.Disj2 left) h (disjunction (image left) q) s q is (rw test (proved h _ (from_one s.hypotheses h a))))
 
-  pub by_undisch : (p q : Nameless) (s : Sequent) → s.conclusion ≡ implication p q → Includes s.hypotheses h → IsMember p h → Proves h q (rule_sequent theory rule_undisch (s ∷ []))
+  pub by_undisch : (p q : Nameless) (s : Sequent) → s.conclusion ≡ implication p q → Includes s.hypotheses h → IsMember p h → Proves h q (rule_sequent theory rules.Undisch (s ∷ []))
   by_undisch p q s is a there =
-      at_one theory rule_undisch h q s (implication p q) is
+      at_one theory rules.Undisch h q s (implication p q) is
       (proved h _ (both_included (p ∷ []) (map unchanged s.hypotheses ++ []) h (one_included p h there) (from_one s.hypotheses h a)))
 
   pub by_disch : (p q : Nameless) (left : NamedTerm) (s : Sequent) → image left ≡ p → IsKnown theory p bool_type → s.conclusion ≡ q → Includes s.hypotheses (h ++ p ∷ [])
-      → Proves h (implication p q) (rule_sequent theory (rule_disch left) (s ∷ []))
+      → Proves h (implication p q) (rule_sequent theory (rules.Disch left) (s ∷ []))
   by_disch p q left s same known is a =
       let test : is_known_formula theory (image left) ≡ true = known_formula theory (image left) (subst (λ (t : Nameless). IsKnown theory t bool_type) (sym same) known) in
       let b : Includes s.hypotheses (h ++ image left ∷ []) = subst (λ (t : Nameless). Includes s.hypotheses (h ++ t ∷ [])) (sym same) a in
-      subst (λ (x : Nameless). Proves h (implication x q) (rule_sequent theory (rule_disch left) (s ∷ []))) same
-      (at_one theory (rule_disch left) h (implication (image left) q) s q is
+      subst (λ (x : Nameless). Proves h (implication x q) (rule_sequent theory (rules.Disch left) (s ∷ []))) same
+      (at_one theory (rules.Disch left) h (implication (image left) q) s q is
       (rw test (proved h _ (from_one (without (image left) s.hypotheses) h (without_last (image left) s.hypotheses h b)))))
 
-  pub by_not_intro : (p : Nameless) (s : Sequent) → s.conclusion ≡ implication p false_term → Includes s.hypotheses h → Proves h (negation p) (rule_sequent theory rule_not_intro (s ∷ []))
-  by_not_intro p s is a = at_one theory rule_not_intro h (negation p) s (implication p false_term) is (proved h _ (from_one s.hypotheses h a))
+  pub by_not_intro : (p : Nameless) (s : Sequent) → s.conclusion ≡ implication p false_term → Includes s.hypotheses h → Proves h (negation p) (rule_sequent theory rules.NotIntro (s ∷ []))
+  by_not_intro p s is a = at_one theory rules.NotIntro h (negation p) s (implication p false_term) is (proved h _ (from_one s.hypotheses h a))
 
   pub by_mp : (p q : Nameless) (s t : Sequent) → s.conclusion ≡ implication p q → Includes s.hypotheses h → t.conclusion ≡ p → Includes t.hypotheses h
-      → Proves h q (rule_sequent theory rule_mp (s ∷ t ∷ []))
-  by_mp p q s t is a js b = at_two theory rule_mp h q s t (implication p q) p is js (rw (same_term-self p) (proved h _ (from_two s.hypotheses t.hypotheses h a b)))
+      → Proves h q (rule_sequent theory rules.Mp (s ∷ t ∷ []))
+  by_mp p q s t is a js b = at_two theory rules.Mp h q s t (implication p q) p is js (rw (same_term-self p) (proved h _ (from_two s.hypotheses t.hypotheses h a b)))
 
   pub by_eq_mp : (p q : Nameless) (s t : Sequent) → s.conclusion ≡ nameless_equation bool_type p q → Includes s.hypotheses h → t.conclusion ≡ p → Includes t.hypotheses h
-      → Proves h q (rule_sequent theory rule_eq_mp (s ∷ t ∷ []))
-  by_eq_mp p q s t is a js b = at_two theory rule_eq_mp h q s t (nameless_equation bool_type p q) p is js (rw (same_term-self p) (proved h _ (from_two s.hypotheses t.hypotheses h a b)))
+      → Proves h q (rule_sequent theory rules.EqMp (s ∷ t ∷ []))
+  by_eq_mp p q s t is a js b = at_two theory rules.EqMp h q s t (nameless_equation bool_type p q) p is js (rw (same_term-self p) (proved h _ (from_two s.hypotheses t.hypotheses h a b)))
 
   pub by_sym : (p q : Nameless) (s : Sequent) → s.conclusion ≡ nameless_equation bool_type p q → Includes s.hypotheses h
-      → Proves h (nameless_equation bool_type q p) (rule_sequent theory rule_sym (s ∷ []))
-  by_sym p q s is a = at_one theory rule_sym h (nameless_equation bool_type q p) s (nameless_equation bool_type p q) is (proved h _ (from_one s.hypotheses h a))
+      → Proves h (nameless_equation bool_type q p) (rule_sequent theory rules.Sym (s ∷ []))
+  by_sym p q s is a = at_one theory rules.Sym h (nameless_equation bool_type q p) s (nameless_equation bool_type p q) is (proved h _ (from_one s.hypotheses h a))
 
-  pub by_eqt_elim : (p : Nameless) (s : Sequent) → s.conclusion ≡ nameless_equation bool_type p true_term → Includes s.hypotheses h → Proves h p (rule_sequent theory rule_eqt_elim (s ∷ []))
-  by_eqt_elim p s is a = at_one theory rule_eqt_elim h p s (nameless_equation bool_type p true_term) is (proved h _ (from_one s.hypotheses h a))
+  pub by_eqt_elim : (p : Nameless) (s : Sequent) → s.conclusion ≡ nameless_equation bool_type p true_term → Includes s.hypotheses h → Proves h p (rule_sequent theory rules.EqtElim (s ∷ []))
+  by_eqt_elim p s is a = at_one theory rules.EqtElim h p s (nameless_equation bool_type p true_term) is (proved h _ (from_one s.hypotheses h a))
 
   pub by_deduct : (p q : Nameless) (s t : Sequent) → s.conclusion ≡ p → Includes s.hypotheses (h ++ q ∷ []) → t.conclusion ≡ q → Includes t.hypotheses (h ++ p ∷ [])
-      → Proves h (nameless_equation bool_type p q) (rule_sequent theory rule_deduct_antisym (s ∷ t ∷ []))
+      → Proves h (nameless_equation bool_type p q) (rule_sequent theory rules.DeductAntisym (s ∷ t ∷ []))
   by_deduct p q s t is a js b =
-      at_two theory rule_deduct_antisym h (nameless_equation bool_type p q) s t p q is js
+      at_two theory rules.DeductAntisym h (nameless_equation bool_type p q) s t p q is js
       (proved h _ (from_two (without q s.hypotheses) (without p t.hypotheses) h (without_last q s.hypotheses h a) (without_last p t.hypotheses h b)))
 
   pub by_disj_cases : (p q r : Nameless) (s t u : Sequent) → s.conclusion ≡ disjunction p q → Includes s.hypotheses h → t.conclusion ≡ r
       → Includes t.hypotheses (h ++ p ∷ []) → u.conclusion ≡ r → Includes u.hypotheses (h ++ q ∷ [])
-      → Proves h r (rule_sequent theory rule_disj_cases (s ∷ t ∷ u ∷ []))
+      → Proves h r (rule_sequent theory rules.DisjCases (s ∷ t ∷ u ∷ []))
   by_disj_cases p q r s t u is a js b ks d =
-      at_three theory rule_disj_cases h r s t u (disjunction p q) r r is js ks
+      at_three theory rules.DisjCases h r s t u (disjunction p q) r r is js ks
       (rw (same_term-self r) (proved h _ (from_three s.hypotheses (without p t.hypotheses) (without q u.hypotheses) h a (without_last p t.hypotheses h b) (without_last q u.hypotheses h d))))
 
-  pub by_refl : (left : NamedTerm) (ty : HolType) → IsKnown theory (image left) ty → Proves h (nameless_equation ty (image left) (image left)) (rule_sequent theory (rule_refl left) [])
+  pub by_refl : (left : NamedTerm) (ty : HolType) → IsKnown theory (image left) ty → Proves h (nameless_equation ty (image left) (image left)) (rule_sequent theory (rules.Refl left) [])
   by_refl left ty known =
       let test = known_term theory (image left) ty known in
-      subst (λ (s : HolType). Proves h (nameless_equation s (image left) (image left)) (rule_sequent theory (rule_refl left) [])) (nameless_type-is (image left) [] ty known.typed)
+      subst (λ (s : HolType). Proves h (nameless_equation s (image left) (image left)) (rule_sequent theory (rules.Refl left) [])) (nameless_type-is (image left) [] ty known.typed)
       (rw test (proved h _ (none_included h)))
 
-  pub by_assume : (term : NamedTerm) → IsKnown theory (image term) bool_type → IsMember (image term) h → Proves h (image term) (rule_sequent theory (rule_assume term) [])
+  pub by_assume : (term : NamedTerm) → IsKnown theory (image term) bool_type → IsMember (image term) h → Proves h (image term) (rule_sequent theory (rules.Assume term) [])
   by_assume term known there = rw (known_formula theory (image term) known) (proved h _ (both_included (image term ∷ []) [] h (one_included (image term) h there) (none_included h)))
 
   pub by_gen : (name : List ℕ) (ty : HolType) (body : Nameless) (s : Sequent) → IsKnownType theory ty → occurs_free name ty body ≡ false → ((x : Nameless) → IsMember x h
       → occurs_free name ty x ≡ false)
-      → s.conclusion ≡ fill (free name ty) body → Includes s.hypotheses h → Proves h (forall_term ty body) (rule_sequent theory (rule_gen (variable name ty)) (s ∷ []))
+      → s.conclusion ≡ fill (free name ty) body → Includes s.hypotheses h → Proves h (forall_term ty body) (rule_sequent theory (rules.Gen (variable name ty)) (s ∷ []))
   by_gen name ty body s known absent fresh is a =
       let test : knows_type theory ty ≡ true = (knows_type-Decides theory ty).1 known in
       let free_in_none : is_free_in_none (Some (name, ty)) s.hypotheses ≡ true = absent-test name ty s.hypotheses (λ x member. fresh x (a x member)) in
-      subst (λ (b : Nameless). Proves h (forall_term ty b) (rule_sequent theory (rule_gen (variable name ty)) (s ∷ []))) (close-fill name ty body absent)
-      (at_one theory (rule_gen (variable name ty)) h (forall_term ty (close name ty (fill (free name ty) body))) s (fill (free name ty) body) is
+      subst (λ (b : Nameless). Proves h (forall_term ty b) (rule_sequent theory (rules.Gen (variable name ty)) (s ∷ []))) (close-fill name ty body absent)
+      (at_one theory (rules.Gen (variable name ty)) h (forall_term ty (close name ty (fill (free name ty) body))) s (fill (free name ty) body) is
       (rw (test, free_in_none) (proved h _ (from_one s.hypotheses h a))))
 
   -- p with p a hypothesis of the second, which is wanted or not
   pub by_prove_hyp : (p q : Nameless) (s t : Sequent) → s.conclusion ≡ p → Includes s.hypotheses h → t.conclusion ≡ q → Includes t.hypotheses (h ++ p ∷ [])
-      → Proves h q (rule_sequent theory rule_prove_hyp (s ∷ t ∷ []))
+      → Proves h q (rule_sequent theory rules.ProveHyp (s ∷ t ∷ []))
   by_prove_hyp p q s t is a js b =
-      at_two theory rule_prove_hyp h q s t p q is js
+      at_two theory rules.ProveHyp h q s t p q is js
       (proved h _ (both_included (if is_among p t.hypotheses then map unchanged s.hypotheses else []) (map unchanged (without p t.hypotheses) ++ []) h
       (go (is_among p t.hypotheses)) (from_one (without p t.hypotheses) h (without_last p t.hypotheses h b))))
     where
@@ -240,13 +240,13 @@ module _ (theory : Theory) (h : List Nameless) where
 
   pub by_exists : (e w : NamedTerm) (ty : HolType) (body : Nameless) (s : Sequent) → image e ≡ app (const exists_name (quantifier ty)) (lam ty body)
       → IsKnown theory (image e) bool_type → IsKnown theory (image w) ty
-      → s.conclusion ≡ fill (image w) body → Includes s.hypotheses h → Proves h (image e) (rule_sequent theory (rule_exists e w) (s ∷ []))
+      → s.conclusion ≡ fill (image w) body → Includes s.hypotheses h → Proves h (image e) (rule_sequent theory (rules.Exists e w) (s ∷ []))
   by_exists e w ty body s same known witness is a =
       let whole : Nameless = app (const exists_name (quantifier ty)) (lam ty body) in
       let filled : Nameless = fill (image w) body in
       let first : is_known_formula theory whole ≡ true = known_formula theory whole (subst (λ (t : Nameless). IsKnown theory t bool_type) same known) in
       let second : knows_nameless theory (image w) ty ≡ true = (knows_nameless-Decides theory (image w) ty).1 witness in
-      at_one theory (rule_exists e w) h (image e) s filled is
+      at_one theory (rules.Exists e w) h (image e) s filled is
       (subst (λ (x : Nameless). Proves h x (given (given (dest_exists x) (λ quantified.
       require (is_known_formula theory x && knows_nameless theory (image w) quantified.0 && same_term (fill (image w) quantified.1) filled)
       (conclude (all ∷ []) x))) (λ inference. drawn inference (s.hypotheses ∷ [])))) (sym same)
@@ -258,7 +258,7 @@ module _ (theory : Theory) (h : List Nameless) where
   pub by_choose : (name : List ℕ) (ty : HolType) (body q : Nameless) (s t : Sequent)
       → occurs_free name ty (app (const exists_name (quantifier ty)) (lam ty body)) ≡ false → occurs_free name ty q ≡ false → ((x : Nameless) → IsMember x h → occurs_free name ty x ≡ false)
       → s.conclusion ≡ app (const exists_name (quantifier ty)) (lam ty body) → Includes s.hypotheses h → t.conclusion ≡ q → Includes t.hypotheses (h ++ fill (free name ty) body ∷ [])
-      → Proves h q (rule_sequent theory (rule_choose (variable name ty)) (s ∷ t ∷ []))
+      → Proves h q (rule_sequent theory (rules.Choose (variable name ty)) (s ∷ t ∷ []))
   by_choose name ty body q s t not_first not_second fresh is a js b =
       let whole : Nameless = app (const exists_name (quantifier ty)) (lam ty body) in
       let others = without_last (fill (free name ty) body) t.hypotheses h b in
@@ -266,7 +266,7 @@ module _ (theory : Theory) (h : List Nameless) where
       absent-test name ty (without (fill (free name ty) body) t.hypotheses) (λ x member. fresh x (others x member)) in
       let same_type : type_eq ty ty ≡ true = (type_eq-Decides ty ty).1 refl in
       let not_in_body : occurs_free name ty body ≡ false = not_first in
-      at_two theory (rule_choose (variable name ty)) h q s t whole q is js
+      at_two theory (rules.Choose (variable name ty)) h q s t whole q is js
       (subst (λ (found : Option (HolType × Nameless)). Proves h q (given (given found (λ quantified.
       require (type_eq ty quantified.0 && not (occurs_free name ty whole || occurs_free name ty q))
       (conclude (all ∷ all_but_without_variable (fill (free name ty) quantified.1) name ty ∷ []) q))) (λ inference. drawn inference (s.hypotheses ∷ t.hypotheses ∷ [])))) (sym (exists-shape ty body))

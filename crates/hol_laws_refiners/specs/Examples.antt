@@ -15,7 +15,7 @@ use Rattle.hol_model.specs.Derived.DerivedRules.{IsConclusion}
 use Rattle.hol_model.specs.Rewrites.RenamedBody.{renamed_body}
 use Rattle.hol_model.specs.Goals.Goals.{Goal}
 use Rattle.hol_model.specs.Goals.GoalStates.{goal_of}
-use Rattle.hol_model.specs.Derived.InferenceRules.{rule_contr, rule_assume}
+use Rattle.hol_model.specs.declared.rule.Rule.TheVariants as rules
 use Rattle.hol_model.specs.Goals.Justifications as tree
 use Rattle.hol_model.specs.Goals.ValidSteps.{Step}
 use Rattle.hol_model.specs.Goals.Replays.{Store, has_room_for_step}
@@ -60,7 +60,7 @@ FourStepsAtLeaf hosts =
 
 -- any formula from `F`, which is assumed
 abbrev pub from_false : NamedTerm → Step
-from_false term = record { goals = []; justification = tree.by_rule (rule_contr term) (tree.part (tree.by_rule (rule_assume false_term) tree.no_parts) tree.no_parts) }
+from_false term = record { goals = []; justification = tree.by_rule (rules.Contr term) (tree.part (tree.by_rule (rules.Assume false_term) tree.no_parts) tree.no_parts) }
 
 -- a step that proves `T` from `F` is not taken
 abbrev pub LiarIsRefused : Type 0

@@ -15,10 +15,8 @@ use Rattle.hol_model.specs.Logic.NamelessLogic.{Equation, Redex, dest_equation, 
 use Rattle.hol_model.specs.Kernel.Theorem.{Theorem}
 use Rattle.hol_model.specs.Kernel.Rules.{dest_trivial_redex}
 use Rattle.hol_model.specs.Goals.Goals.{Sequent}
-use Rattle.hol_model.specs.Derived.InferenceRules.{InferenceRule, rule_refl, rule_trans, rule_mk_comb, rule_abs, rule_beta, rule_assume, rule_eq_mp, rule_deduct_antisym, rule_inst}
-use Rattle.hol_model.specs.Derived.InferenceRules.{rule_inst_type, rule_eta_axiom, rule_select_axiom, rule_sym, rule_add_assum, rule_prove_hyp, rule_eqt_intro, rule_eqt_elim, rule_beta_conv}
-use Rattle.hol_model.specs.Derived.InferenceRules.{rule_conj, rule_conjunct1, rule_conjunct2, rule_disch, rule_undisch, rule_mp, rule_spec, rule_gen, rule_disj1, rule_disj2, rule_disj_cases}
-use Rattle.hol_model.specs.Derived.InferenceRules.{rule_contr, rule_not_intro, rule_not_elim, rule_exists, rule_choose}
+use Rattle.hol_model.specs.Derived.InferenceRules.{InferenceRule}
+use Rattle.hol_model.specs.declared.rule.Rule.TheVariants as rules
 use Rattle.hol_model.specs.Derived.Inference.{Inference, infer, require, given, drawn, passed, is_known_formula, is_known_term, may_replace, may_replace_types, conclusions_of, hypotheses_of}
 use Rattle.hol_model.specs.Derived.Inference.{rule_sequent}
 use Rattle.hol_model.specs.Goals.Justifications.{Justification, sub, named, lemma, by_rule, Parts, no_parts, part, NamedSequents, Subgoals, joined, sequent_over, sequents_over, sequent_of}
@@ -195,12 +193,12 @@ module _ (theory : Theory) (has : HasLogic theory) where
   trivial-known _ body ty dest known = cc
 
   infer-known : (rule : InferenceRule) (conclusions : List Nameless) → AreFormulas theory conclusions → Concludes (infer theory rule conclusions)
-  infer-known (rule_refl t) [] k = term_tested t _ (λ known. some _ (equates (nameless_type [] (image t)) (image t) (image t) known known))
-  infer-known rule_trans (a ∷ b ∷ []) k = equation_sides a _ k.0 (λ left first. equation_sides b _ k.1.0 (λ right second.
+  infer-known (rules.Refl t) [] k = term_tested t _ (λ known. some _ (equates (nameless_type [] (image t)) (image t) (image t) known known))
+  infer-known rules.Trans (a ∷ b ∷ []) k = equation_sides a _ k.0 (λ left first. equation_sides b _ k.1.0 (λ right second.
       required (same_term left.right right.left && type_eq left.ty right.ty) _ (λ test.
       let same : left.ty ≡ right.ty = (type_eq-Decides left.ty right.ty).0 (second_of_both (same_term left.right right.left) (type_eq left.ty right.ty) test) in
       some _ (equates left.ty left.left right.right first.left (subst (λ (ty : HolType). IsKnown theory right.right ty) (sym same) second.right)))))
-  infer-known rule_mk_comb (a ∷ b ∷ []) k = equation_sides a _ k.0 (λ functions first. equation_sides b _ k.1.0 (λ arguments second.
+  infer-known rules.MkComb (a ∷ b ∷ []) k = equation_sides a _ k.0 (λ functions first. equation_sides b _ k.1.0 (λ arguments second.
       from_given (dest_function_type functions.ty) _ (λ arrow is. required (type_eq arrow.0 arguments.ty) _ (λ test. some _ (applied functions arguments arrow first second is test)))))
     where
       applied : (functions arguments : Equation) (arrow : HolType × HolType) → IsKnownEquation theory functions → IsKnownEquation theory arguments → dest_function_type functions.ty ≡ Some arrow
@@ -214,52 +212,52 @@ module _ (theory : Theory) (has : HasLogic theory) where
           (subst (λ (ty : HolType). IsKnown theory arguments.left ty) argument_is second.left))
           (app-known theory arrow.0 arrow.1 functions.right arguments.right (subst (λ (ty : HolType). IsKnown theory functions.right ty) function_is first.right)
           (subst (λ (ty : HolType). IsKnown theory arguments.right ty) argument_is second.right))
-  infer-known (rule_abs x) (a ∷ []) k = from_given (dest_variable x) _ (λ binder is. equation_sides a _ k.0 (λ sides known. required (knows_type theory binder.1) _ (λ test.
+  infer-known (rules.Abs x) (a ∷ []) k = from_given (dest_variable x) _ (λ binder is. equation_sides a _ k.0 (λ sides known. required (knows_type theory binder.1) _ (λ test.
       let there = (knows_type-Decides theory binder.1).0 test in
       some _ (equates (function_type binder.1 sides.ty) (lam binder.1 (close binder.0 binder.1 sides.left)) (lam binder.1 (close binder.0 binder.1 sides.right))
       (close-known theory binder.0 binder.1 sides.ty sides.left there known.left) (close-known theory binder.0 binder.1 sides.ty sides.right there known.right)))))
-  infer-known (rule_beta t) [] k = from_given (dest_trivial_redex t) _ (λ body is. term_tested t _ (λ known.
+  infer-known (rules.Beta t) [] k = from_given (dest_trivial_redex t) _ (λ body is. term_tested t _ (λ known.
       some _ (equates (nameless_type [] (image t)) (image t) (image body) known (trivial-known t body (nameless_type [] (image t)) is known))))
-  infer-known (rule_assume p) [] k = formula_tested p _ (λ known. some _ known)
-  infer-known rule_eq_mp (a ∷ b ∷ []) k = both_formulas equality_name a _ k.0 (λ sides left right. required (same_term sides.0 b) _ (λ test. some _ right))
-  infer-known rule_deduct_antisym (p ∷ q ∷ []) k = some _ (equates bool_type p q k.0 k.1.0)
-  infer-known (rule_inst theta) (a ∷ []) k = required (may_replace theory theta) _ (λ test. some _ (inst-known theory theta a test k.0))
-  infer-known (rule_inst_type theta) (a ∷ []) k = required (may_replace_types theory theta) _ (λ test. some _ (inst_type-known theory theta a test k.0))
-  infer-known rule_eta_axiom [] k = some _ (equates (function_type type_a type_b) (lam type_a (app eta_variable (bound 0))) eta_variable eta_abstraction-known eta_variable-known)
-  infer-known rule_select_axiom [] k = some _ (select_conclusion-known theory has.legal)
-  infer-known rule_sym (a ∷ []) k = equation_sides a _ k.0 (λ sides known. some _ (equates sides.ty sides.right sides.left known.right known.left))
-  infer-known (rule_add_assum p) (q ∷ []) k = formula_tested p _ (λ known. some _ k.0)
-  infer-known rule_prove_hyp (p ∷ q ∷ []) k = some _ k.1.0
-  infer-known rule_eqt_intro (p ∷ []) k = some _ (equates bool_type p true_term k.0 (true-known theory has))
-  infer-known rule_eqt_elim (a ∷ []) k = both_formulas equality_name a _ k.0 (λ sides left right. required (same_term sides.1 true_term) _ (λ test. some _ left))
-  infer-known (rule_beta_conv t) [] k = from_given (dest_redex (image t)) _ (λ redex is. term_tested t _ (λ known.
+  infer-known (rules.Assume p) [] k = formula_tested p _ (λ known. some _ known)
+  infer-known rules.EqMp (a ∷ b ∷ []) k = both_formulas equality_name a _ k.0 (λ sides left right. required (same_term sides.0 b) _ (λ test. some _ right))
+  infer-known rules.DeductAntisym (p ∷ q ∷ []) k = some _ (equates bool_type p q k.0 k.1.0)
+  infer-known (rules.Inst theta) (a ∷ []) k = required (may_replace theory theta.items) _ (λ test. some _ (inst-known theory theta.items a test k.0))
+  infer-known (rules.InstType theta) (a ∷ []) k = required (may_replace_types theory theta.items) _ (λ test. some _ (inst_type-known theory theta.items a test k.0))
+  infer-known rules.EtaAxiom [] k = some _ (equates (function_type type_a type_b) (lam type_a (app eta_variable (bound 0))) eta_variable eta_abstraction-known eta_variable-known)
+  infer-known rules.SelectAxiom [] k = some _ (select_conclusion-known theory has.legal)
+  infer-known rules.Sym (a ∷ []) k = equation_sides a _ k.0 (λ sides known. some _ (equates sides.ty sides.right sides.left known.right known.left))
+  infer-known (rules.AddAssum p) (q ∷ []) k = formula_tested p _ (λ known. some _ k.0)
+  infer-known rules.ProveHyp (p ∷ q ∷ []) k = some _ k.1.0
+  infer-known rules.EqtIntro (p ∷ []) k = some _ (equates bool_type p true_term k.0 (true-known theory has))
+  infer-known rules.EqtElim (a ∷ []) k = both_formulas equality_name a _ k.0 (λ sides left right. required (same_term sides.1 true_term) _ (λ test. some _ left))
+  infer-known (rules.BetaConv t) [] k = from_given (dest_redex (image t)) _ (λ redex is. term_tested t _ (λ known.
       some _ (equates (nameless_type [] (image t)) (image t) (fill redex.argument redex.body) known (redex-known (image t) redex (nameless_type [] (image t)) is known))))
-  infer-known rule_conj (p ∷ q ∷ []) k = some _ (connects and_name refl p q k.0 k.1.0)
-  infer-known rule_conjunct1 (a ∷ []) k = both_formulas and_name a _ k.0 (λ sides left right. some _ left)
-  infer-known rule_conjunct2 (a ∷ []) k = both_formulas and_name a _ k.0 (λ sides left right. some _ right)
-  infer-known (rule_disch p) (q ∷ []) k = formula_tested p _ (λ known. some _ (connects implies_name refl (image p) q known k.0))
-  infer-known rule_undisch (a ∷ []) k = both_formulas implies_name a _ k.0 (λ sides left right. some _ right)
-  infer-known rule_mp (a ∷ b ∷ []) k = both_formulas implies_name a _ k.0 (λ sides left right. required (same_term sides.0 b) _ (λ test. some _ right))
-  infer-known (rule_spec t) (a ∷ []) k = from_given (dest_forall a) _ (λ quantified is. required (knows_nameless theory (image t) quantified.0) _ (λ test.
+  infer-known rules.Conj (p ∷ q ∷ []) k = some _ (connects and_name refl p q k.0 k.1.0)
+  infer-known rules.Conjunct1 (a ∷ []) k = both_formulas and_name a _ k.0 (λ sides left right. some _ left)
+  infer-known rules.Conjunct2 (a ∷ []) k = both_formulas and_name a _ k.0 (λ sides left right. some _ right)
+  infer-known (rules.Disch p) (q ∷ []) k = formula_tested p _ (λ known. some _ (connects implies_name refl (image p) q known k.0))
+  infer-known rules.Undisch (a ∷ []) k = both_formulas implies_name a _ k.0 (λ sides left right. some _ right)
+  infer-known rules.Mp (a ∷ b ∷ []) k = both_formulas implies_name a _ k.0 (λ sides left right. required (same_term sides.0 b) _ (λ test. some _ right))
+  infer-known (rules.Spec t) (a ∷ []) k = from_given (dest_forall a) _ (λ quantified is. required (knows_nameless theory (image t) quantified.0) _ (λ test.
       let inside = quantified-parts theory forall_name a quantified is k.0 in
       some _ (fill-known theory (image t) quantified.0 bool_type quantified.1 ((knows_nameless-Decides theory (image t) quantified.0).0 test) inside.typed inside.parts)))
-  infer-known (rule_gen x) (p ∷ []) k = from_given (dest_variable x) _ (λ binder is. required (knows_type theory binder.1) _ (λ test.
+  infer-known (rules.Gen x) (p ∷ []) k = from_given (dest_variable x) _ (λ binder is. required (knows_type theory binder.1) _ (λ test.
       let there = (knows_type-Decides theory binder.1).0 test in
       let closed = close-known theory binder.0 binder.1 bool_type p there k.0 in
       some _ (forall-known theory has binder.1 (close binder.0 binder.1 p) there (closed-typed binder.1 (close binder.0 binder.1 p) closed.typed) closed.parts.1)))
-  infer-known (rule_disj1 q) (p ∷ []) k = formula_tested q _ (λ known. some _ (connects or_name refl p (image q) k.0 known))
-  infer-known (rule_disj2 p) (q ∷ []) k = formula_tested p _ (λ known. some _ (connects or_name refl (image p) q known k.0))
-  infer-known rule_disj_cases (a ∷ b ∷ c ∷ []) k = both_formulas or_name a _ k.0 (λ sides left right. required (same_term b c) _ (λ test. some _ k.1.0))
-  infer-known (rule_contr p) (a ∷ []) k = required (same_term a false_term && is_known_formula theory (image p)) _ (λ test.
+  infer-known (rules.Disj1 q) (p ∷ []) k = formula_tested q _ (λ known. some _ (connects or_name refl p (image q) k.0 known))
+  infer-known (rules.Disj2 p) (q ∷ []) k = formula_tested p _ (λ known. some _ (connects or_name refl (image p) q known k.0))
+  infer-known rules.DisjCases (a ∷ b ∷ c ∷ []) k = both_formulas or_name a _ k.0 (λ sides left right. required (same_term b c) _ (λ test. some _ k.1.0))
+  infer-known (rules.Contr p) (a ∷ []) k = required (same_term a false_term && is_known_formula theory (image p)) _ (λ test.
       some _ ((knows_nameless-Decides theory (image p) bool_type).0 (second_of_both (same_term a false_term) (is_known_formula theory (image p)) test)))
-  infer-known rule_not_intro (a ∷ []) k = both_formulas implies_name a _ k.0 (λ sides left right. required (same_term sides.1 false_term) _ (λ test. some _ (negation-known theory has sides.0 left)))
-  infer-known rule_not_elim (a ∷ []) k = from_given (dest_negation a) _ (λ p is.
+  infer-known rules.NotIntro (a ∷ []) k = both_formulas implies_name a _ k.0 (λ sides left right. required (same_term sides.1 false_term) _ (λ test. some _ (negation-known theory has sides.0 left)))
+  infer-known rules.NotElim (a ∷ []) k = from_given (dest_negation a) _ (λ p is.
       some _ (connects implies_name refl p false_term (negated theory a p is k.0) (false-known theory (logical-type theory has false_name bool_type refl))))
-  infer-known (rule_exists e w) (a ∷ []) k = from_given (dest_exists (image e)) _ (λ quantified is.
+  infer-known (rules.Exists e w) (a ∷ []) k = from_given (dest_exists (image e)) _ (λ quantified is.
       required (is_known_formula theory (image e) && knows_nameless theory (image w) quantified.0 && same_term (fill (image w) quantified.1) a) _ (λ test.
       some _ ((knows_nameless-Decides theory (image e) bool_type).0 (first_of_both (is_known_formula theory (image e)) (knows_nameless theory (image w) quantified.0)
       (first_of_both (is_known_formula theory (image e) && knows_nameless theory (image w) quantified.0) (same_term (fill (image w) quantified.1) a) test)))))
-  infer-known (rule_choose v) (a ∷ q ∷ []) k = from_given (dest_variable v) _ (λ binder is. from_given (dest_exists a) _ (λ quantified js.
+  infer-known (rules.Choose v) (a ∷ q ∷ []) k = from_given (dest_variable v) _ (λ binder is. from_given (dest_exists a) _ (λ quantified js.
       required (type_eq binder.1 quantified.0 && not (occurs_free binder.0 binder.1 a || occurs_free binder.0 binder.1 q)) _ (λ test. some _ k.1.0)))
   infer-known _ _ k = none
 

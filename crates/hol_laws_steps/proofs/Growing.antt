@@ -13,10 +13,8 @@ use Rattle.hol_model.specs.Logic.Logic.{false_term}
 use Rattle.hol_model.specs.Kernel.Rules.{dest_trivial_redex}
 use Rattle.hol_model.specs.Logic.NamelessLogic.{dest_equation, dest_forall, dest_exists, dest_redex}
 use Rattle.hol_model.specs.Goals.Goals.{Sequent}
-use Rattle.hol_model.specs.Derived.InferenceRules.{InferenceRule, rule_refl, rule_trans, rule_mk_comb, rule_abs, rule_beta, rule_assume, rule_eq_mp, rule_deduct_antisym, rule_inst}
-use Rattle.hol_model.specs.Derived.InferenceRules.{rule_inst_type, rule_eta_axiom, rule_select_axiom, rule_sym, rule_add_assum, rule_prove_hyp, rule_eqt_intro, rule_eqt_elim, rule_beta_conv}
-use Rattle.hol_model.specs.Derived.InferenceRules.{rule_conj, rule_conjunct1, rule_conjunct2, rule_disch, rule_undisch, rule_mp, rule_spec, rule_gen, rule_disj1, rule_disj2, rule_disj_cases}
-use Rattle.hol_model.specs.Derived.InferenceRules.{rule_contr, rule_not_intro, rule_not_elim, rule_exists, rule_choose}
+use Rattle.hol_model.specs.Derived.InferenceRules.{InferenceRule}
+use Rattle.hol_model.specs.declared.rule.Rule.TheVariants as rules
 use Rattle.hol_model.specs.Derived.Inference.{Inference, infer, require, given, drawn, is_known_formula, is_known_term, may_replace, may_replace_types, conclusions_of, hypotheses_of, rule_sequent}
 use Rattle.hol_model.proofs.Logic.Later.{head_is_new, rest_is_legal, IsKnownType-later, IsKnown-later}
 use Rattle.hol_model.proofs.Terms.TypeTests.{knows_type-Decides}
@@ -94,122 +92,123 @@ may_replace_types-later earlier now later theta =
 
 -- what a rule makes of its premises' conclusions, it makes over the later theory
 infer-later : (earlier now : Theory) → KnowsMore earlier now → (rule : InferenceRule) (conclusions : List Nameless) → IsKept (infer earlier rule conclusions) (infer now rule conclusions)
-infer-later earlier now later (rule_refl t) [] = kept-required (is_known_term earlier (image t)) (is_known_term now (image t)) _ (later.terms (image t) (nameless_type [] (image t)))
-infer-later earlier now later (rule_refl t) (d ∷ more) = tt
-infer-later earlier now later rule_trans [] = tt
-infer-later earlier now later rule_trans (a ∷ []) = tt
-infer-later earlier now later rule_trans (a ∷ b ∷ []) = kept-self (infer earlier rule_trans (a ∷ b ∷ []))
-infer-later earlier now later rule_trans (a ∷ b ∷ d ∷ more) = tt
-infer-later earlier now later rule_mk_comb [] = tt
-infer-later earlier now later rule_mk_comb (a ∷ []) = tt
-infer-later earlier now later rule_mk_comb (a ∷ b ∷ []) = kept-self (infer earlier rule_mk_comb (a ∷ b ∷ []))
-infer-later earlier now later rule_mk_comb (a ∷ b ∷ d ∷ more) = tt
-infer-later earlier now later (rule_abs x) [] = tt
-infer-later earlier now later (rule_abs x) (a ∷ []) = kept-given (dest_variable x) _ _
+infer-later earlier now later (rules.Refl t) [] = kept-required (is_known_term earlier (image t)) (is_known_term now (image t)) _ (later.terms (image t) (nameless_type [] (image t)))
+infer-later earlier now later (rules.Refl t) (d ∷ more) = tt
+infer-later earlier now later rules.Trans [] = tt
+infer-later earlier now later rules.Trans (a ∷ []) = tt
+infer-later earlier now later rules.Trans (a ∷ b ∷ []) = kept-self (infer earlier rules.Trans (a ∷ b ∷ []))
+infer-later earlier now later rules.Trans (a ∷ b ∷ d ∷ more) = tt
+infer-later earlier now later rules.MkComb [] = tt
+infer-later earlier now later rules.MkComb (a ∷ []) = tt
+infer-later earlier now later rules.MkComb (a ∷ b ∷ []) = kept-self (infer earlier rules.MkComb (a ∷ b ∷ []))
+infer-later earlier now later rules.MkComb (a ∷ b ∷ d ∷ more) = tt
+infer-later earlier now later (rules.Abs x) [] = tt
+infer-later earlier now later (rules.Abs x) (a ∷ []) = kept-given (dest_variable x) _ _
     (λ binder. kept-given (dest_equation a) _ _ (λ sides. kept-required (knows_type earlier binder.1) (knows_type now binder.1) _ (later.types binder.1)))
-infer-later earlier now later (rule_abs x) (a ∷ d ∷ more) = tt
-infer-later earlier now later (rule_beta t) [] = kept-given (dest_trivial_redex t) _ _
+infer-later earlier now later (rules.Abs x) (a ∷ d ∷ more) = tt
+infer-later earlier now later (rules.Beta t) [] = kept-given (dest_trivial_redex t) _ _
     (λ body. kept-required (is_known_term earlier (image t)) (is_known_term now (image t)) _ (later.terms (image t) (nameless_type [] (image t))))
-infer-later earlier now later (rule_beta t) (d ∷ more) = tt
-infer-later earlier now later (rule_assume p) [] = kept-required (is_known_formula earlier (image p)) (is_known_formula now (image p)) _ (later.terms (image p) bool_type)
-infer-later earlier now later (rule_assume p) (d ∷ more) = tt
-infer-later earlier now later rule_eq_mp [] = tt
-infer-later earlier now later rule_eq_mp (a ∷ []) = tt
-infer-later earlier now later rule_eq_mp (a ∷ b ∷ []) = kept-self (infer earlier rule_eq_mp (a ∷ b ∷ []))
-infer-later earlier now later rule_eq_mp (a ∷ b ∷ d ∷ more) = tt
-infer-later earlier now later rule_deduct_antisym [] = tt
-infer-later earlier now later rule_deduct_antisym (a ∷ []) = tt
-infer-later earlier now later rule_deduct_antisym (a ∷ b ∷ []) = kept-self (infer earlier rule_deduct_antisym (a ∷ b ∷ []))
-infer-later earlier now later rule_deduct_antisym (a ∷ b ∷ d ∷ more) = tt
-infer-later earlier now later (rule_inst theta) [] = tt
-infer-later earlier now later (rule_inst theta) (a ∷ []) = kept-required (may_replace earlier theta) (may_replace now theta) _ (may_replace-later earlier now later theta)
-infer-later earlier now later (rule_inst theta) (a ∷ d ∷ more) = tt
-infer-later earlier now later (rule_inst_type theta) [] = tt
-infer-later earlier now later (rule_inst_type theta) (a ∷ []) = kept-required (may_replace_types earlier theta) (may_replace_types now theta) _ (may_replace_types-later earlier now later theta)
-infer-later earlier now later (rule_inst_type theta) (a ∷ d ∷ more) = tt
-infer-later earlier now later rule_eta_axiom [] = kept-self (infer earlier rule_eta_axiom [])
-infer-later earlier now later rule_eta_axiom (d ∷ more) = tt
-infer-later earlier now later rule_select_axiom [] = kept-self (infer earlier rule_select_axiom [])
-infer-later earlier now later rule_select_axiom (d ∷ more) = tt
-infer-later earlier now later rule_sym [] = tt
-infer-later earlier now later rule_sym (a ∷ []) = kept-self (infer earlier rule_sym (a ∷ []))
-infer-later earlier now later rule_sym (a ∷ d ∷ more) = tt
-infer-later earlier now later (rule_add_assum p) [] = tt
-infer-later earlier now later (rule_add_assum p) (a ∷ []) = kept-required (is_known_formula earlier (image p)) (is_known_formula now (image p)) _ (later.terms (image p) bool_type)
-infer-later earlier now later (rule_add_assum p) (a ∷ d ∷ more) = tt
-infer-later earlier now later rule_prove_hyp [] = tt
-infer-later earlier now later rule_prove_hyp (a ∷ []) = tt
-infer-later earlier now later rule_prove_hyp (a ∷ b ∷ []) = kept-self (infer earlier rule_prove_hyp (a ∷ b ∷ []))
-infer-later earlier now later rule_prove_hyp (a ∷ b ∷ d ∷ more) = tt
-infer-later earlier now later rule_eqt_intro [] = tt
-infer-later earlier now later rule_eqt_intro (a ∷ []) = kept-self (infer earlier rule_eqt_intro (a ∷ []))
-infer-later earlier now later rule_eqt_intro (a ∷ d ∷ more) = tt
-infer-later earlier now later rule_eqt_elim [] = tt
-infer-later earlier now later rule_eqt_elim (a ∷ []) = kept-self (infer earlier rule_eqt_elim (a ∷ []))
-infer-later earlier now later rule_eqt_elim (a ∷ d ∷ more) = tt
-infer-later earlier now later (rule_beta_conv t) [] = kept-given (dest_redex (image t)) _ _
+infer-later earlier now later (rules.Beta t) (d ∷ more) = tt
+infer-later earlier now later (rules.Assume p) [] = kept-required (is_known_formula earlier (image p)) (is_known_formula now (image p)) _ (later.terms (image p) bool_type)
+infer-later earlier now later (rules.Assume p) (d ∷ more) = tt
+infer-later earlier now later rules.EqMp [] = tt
+infer-later earlier now later rules.EqMp (a ∷ []) = tt
+infer-later earlier now later rules.EqMp (a ∷ b ∷ []) = kept-self (infer earlier rules.EqMp (a ∷ b ∷ []))
+infer-later earlier now later rules.EqMp (a ∷ b ∷ d ∷ more) = tt
+infer-later earlier now later rules.DeductAntisym [] = tt
+infer-later earlier now later rules.DeductAntisym (a ∷ []) = tt
+infer-later earlier now later rules.DeductAntisym (a ∷ b ∷ []) = kept-self (infer earlier rules.DeductAntisym (a ∷ b ∷ []))
+infer-later earlier now later rules.DeductAntisym (a ∷ b ∷ d ∷ more) = tt
+infer-later earlier now later (rules.Inst theta) [] = tt
+infer-later earlier now later (rules.Inst theta) (a ∷ []) = kept-required (may_replace earlier theta.items) (may_replace now theta.items) _ (may_replace-later earlier now later theta.items)
+infer-later earlier now later (rules.Inst theta) (a ∷ d ∷ more) = tt
+infer-later earlier now later (rules.InstType theta) [] = tt
+infer-later earlier now later (rules.InstType theta) (a ∷ []) =
+    kept-required (may_replace_types earlier theta.items) (may_replace_types now theta.items) _ (may_replace_types-later earlier now later theta.items)
+infer-later earlier now later (rules.InstType theta) (a ∷ d ∷ more) = tt
+infer-later earlier now later rules.EtaAxiom [] = kept-self (infer earlier rules.EtaAxiom [])
+infer-later earlier now later rules.EtaAxiom (d ∷ more) = tt
+infer-later earlier now later rules.SelectAxiom [] = kept-self (infer earlier rules.SelectAxiom [])
+infer-later earlier now later rules.SelectAxiom (d ∷ more) = tt
+infer-later earlier now later rules.Sym [] = tt
+infer-later earlier now later rules.Sym (a ∷ []) = kept-self (infer earlier rules.Sym (a ∷ []))
+infer-later earlier now later rules.Sym (a ∷ d ∷ more) = tt
+infer-later earlier now later (rules.AddAssum p) [] = tt
+infer-later earlier now later (rules.AddAssum p) (a ∷ []) = kept-required (is_known_formula earlier (image p)) (is_known_formula now (image p)) _ (later.terms (image p) bool_type)
+infer-later earlier now later (rules.AddAssum p) (a ∷ d ∷ more) = tt
+infer-later earlier now later rules.ProveHyp [] = tt
+infer-later earlier now later rules.ProveHyp (a ∷ []) = tt
+infer-later earlier now later rules.ProveHyp (a ∷ b ∷ []) = kept-self (infer earlier rules.ProveHyp (a ∷ b ∷ []))
+infer-later earlier now later rules.ProveHyp (a ∷ b ∷ d ∷ more) = tt
+infer-later earlier now later rules.EqtIntro [] = tt
+infer-later earlier now later rules.EqtIntro (a ∷ []) = kept-self (infer earlier rules.EqtIntro (a ∷ []))
+infer-later earlier now later rules.EqtIntro (a ∷ d ∷ more) = tt
+infer-later earlier now later rules.EqtElim [] = tt
+infer-later earlier now later rules.EqtElim (a ∷ []) = kept-self (infer earlier rules.EqtElim (a ∷ []))
+infer-later earlier now later rules.EqtElim (a ∷ d ∷ more) = tt
+infer-later earlier now later (rules.BetaConv t) [] = kept-given (dest_redex (image t)) _ _
     (λ redex. kept-required (is_known_term earlier (image t)) (is_known_term now (image t)) _ (later.terms (image t) (nameless_type [] (image t))))
-infer-later earlier now later (rule_beta_conv t) (d ∷ more) = tt
-infer-later earlier now later rule_conj [] = tt
-infer-later earlier now later rule_conj (a ∷ []) = tt
-infer-later earlier now later rule_conj (a ∷ b ∷ []) = kept-self (infer earlier rule_conj (a ∷ b ∷ []))
-infer-later earlier now later rule_conj (a ∷ b ∷ d ∷ more) = tt
-infer-later earlier now later rule_conjunct1 [] = tt
-infer-later earlier now later rule_conjunct1 (a ∷ []) = kept-self (infer earlier rule_conjunct1 (a ∷ []))
-infer-later earlier now later rule_conjunct1 (a ∷ d ∷ more) = tt
-infer-later earlier now later rule_conjunct2 [] = tt
-infer-later earlier now later rule_conjunct2 (a ∷ []) = kept-self (infer earlier rule_conjunct2 (a ∷ []))
-infer-later earlier now later rule_conjunct2 (a ∷ d ∷ more) = tt
-infer-later earlier now later (rule_disch p) [] = tt
-infer-later earlier now later (rule_disch p) (a ∷ []) = kept-required (is_known_formula earlier (image p)) (is_known_formula now (image p)) _ (later.terms (image p) bool_type)
-infer-later earlier now later (rule_disch p) (a ∷ d ∷ more) = tt
-infer-later earlier now later rule_undisch [] = tt
-infer-later earlier now later rule_undisch (a ∷ []) = kept-self (infer earlier rule_undisch (a ∷ []))
-infer-later earlier now later rule_undisch (a ∷ d ∷ more) = tt
-infer-later earlier now later rule_mp [] = tt
-infer-later earlier now later rule_mp (a ∷ []) = tt
-infer-later earlier now later rule_mp (a ∷ b ∷ []) = kept-self (infer earlier rule_mp (a ∷ b ∷ []))
-infer-later earlier now later rule_mp (a ∷ b ∷ d ∷ more) = tt
-infer-later earlier now later (rule_spec t) [] = tt
-infer-later earlier now later (rule_spec t) (a ∷ []) = kept-given (dest_forall a) _ _
+infer-later earlier now later (rules.BetaConv t) (d ∷ more) = tt
+infer-later earlier now later rules.Conj [] = tt
+infer-later earlier now later rules.Conj (a ∷ []) = tt
+infer-later earlier now later rules.Conj (a ∷ b ∷ []) = kept-self (infer earlier rules.Conj (a ∷ b ∷ []))
+infer-later earlier now later rules.Conj (a ∷ b ∷ d ∷ more) = tt
+infer-later earlier now later rules.Conjunct1 [] = tt
+infer-later earlier now later rules.Conjunct1 (a ∷ []) = kept-self (infer earlier rules.Conjunct1 (a ∷ []))
+infer-later earlier now later rules.Conjunct1 (a ∷ d ∷ more) = tt
+infer-later earlier now later rules.Conjunct2 [] = tt
+infer-later earlier now later rules.Conjunct2 (a ∷ []) = kept-self (infer earlier rules.Conjunct2 (a ∷ []))
+infer-later earlier now later rules.Conjunct2 (a ∷ d ∷ more) = tt
+infer-later earlier now later (rules.Disch p) [] = tt
+infer-later earlier now later (rules.Disch p) (a ∷ []) = kept-required (is_known_formula earlier (image p)) (is_known_formula now (image p)) _ (later.terms (image p) bool_type)
+infer-later earlier now later (rules.Disch p) (a ∷ d ∷ more) = tt
+infer-later earlier now later rules.Undisch [] = tt
+infer-later earlier now later rules.Undisch (a ∷ []) = kept-self (infer earlier rules.Undisch (a ∷ []))
+infer-later earlier now later rules.Undisch (a ∷ d ∷ more) = tt
+infer-later earlier now later rules.Mp [] = tt
+infer-later earlier now later rules.Mp (a ∷ []) = tt
+infer-later earlier now later rules.Mp (a ∷ b ∷ []) = kept-self (infer earlier rules.Mp (a ∷ b ∷ []))
+infer-later earlier now later rules.Mp (a ∷ b ∷ d ∷ more) = tt
+infer-later earlier now later (rules.Spec t) [] = tt
+infer-later earlier now later (rules.Spec t) (a ∷ []) = kept-given (dest_forall a) _ _
     (λ quantified. kept-required (knows_nameless earlier (image t) quantified.0) (knows_nameless now (image t) quantified.0) _ (later.terms (image t) quantified.0))
-infer-later earlier now later (rule_spec t) (a ∷ d ∷ more) = tt
-infer-later earlier now later (rule_gen x) [] = tt
-infer-later earlier now later (rule_gen x) (a ∷ []) = kept-given (dest_variable x) _ _ (λ binder. kept-required (knows_type earlier binder.1) (knows_type now binder.1) _ (later.types binder.1))
-infer-later earlier now later (rule_gen x) (a ∷ d ∷ more) = tt
-infer-later earlier now later (rule_disj1 q) [] = tt
-infer-later earlier now later (rule_disj1 q) (a ∷ []) = kept-required (is_known_formula earlier (image q)) (is_known_formula now (image q)) _ (later.terms (image q) bool_type)
-infer-later earlier now later (rule_disj1 q) (a ∷ d ∷ more) = tt
-infer-later earlier now later (rule_disj2 p) [] = tt
-infer-later earlier now later (rule_disj2 p) (a ∷ []) = kept-required (is_known_formula earlier (image p)) (is_known_formula now (image p)) _ (later.terms (image p) bool_type)
-infer-later earlier now later (rule_disj2 p) (a ∷ d ∷ more) = tt
-infer-later earlier now later rule_disj_cases [] = tt
-infer-later earlier now later rule_disj_cases (a ∷ []) = tt
-infer-later earlier now later rule_disj_cases (a ∷ b ∷ []) = tt
-infer-later earlier now later rule_disj_cases (a ∷ b ∷ c ∷ []) = kept-self (infer earlier rule_disj_cases (a ∷ b ∷ c ∷ []))
-infer-later earlier now later rule_disj_cases (a ∷ b ∷ c ∷ d ∷ more) = tt
-infer-later earlier now later (rule_contr p) [] = tt
-infer-later earlier now later (rule_contr p) (a ∷ []) = kept-required (same_term a false_term && is_known_formula earlier (image p))
+infer-later earlier now later (rules.Spec t) (a ∷ d ∷ more) = tt
+infer-later earlier now later (rules.Gen x) [] = tt
+infer-later earlier now later (rules.Gen x) (a ∷ []) = kept-given (dest_variable x) _ _ (λ binder. kept-required (knows_type earlier binder.1) (knows_type now binder.1) _ (later.types binder.1))
+infer-later earlier now later (rules.Gen x) (a ∷ d ∷ more) = tt
+infer-later earlier now later (rules.Disj1 q) [] = tt
+infer-later earlier now later (rules.Disj1 q) (a ∷ []) = kept-required (is_known_formula earlier (image q)) (is_known_formula now (image q)) _ (later.terms (image q) bool_type)
+infer-later earlier now later (rules.Disj1 q) (a ∷ d ∷ more) = tt
+infer-later earlier now later (rules.Disj2 p) [] = tt
+infer-later earlier now later (rules.Disj2 p) (a ∷ []) = kept-required (is_known_formula earlier (image p)) (is_known_formula now (image p)) _ (later.terms (image p) bool_type)
+infer-later earlier now later (rules.Disj2 p) (a ∷ d ∷ more) = tt
+infer-later earlier now later rules.DisjCases [] = tt
+infer-later earlier now later rules.DisjCases (a ∷ []) = tt
+infer-later earlier now later rules.DisjCases (a ∷ b ∷ []) = tt
+infer-later earlier now later rules.DisjCases (a ∷ b ∷ c ∷ []) = kept-self (infer earlier rules.DisjCases (a ∷ b ∷ c ∷ []))
+infer-later earlier now later rules.DisjCases (a ∷ b ∷ c ∷ d ∷ more) = tt
+infer-later earlier now later (rules.Contr p) [] = tt
+infer-later earlier now later (rules.Contr p) (a ∷ []) = kept-required (same_term a false_term && is_known_formula earlier (image p))
     (same_term a false_term && is_known_formula now (image p)) _ (both-later (same_term a false_term) (is_known_formula earlier (image p)) (is_known_formula now (image p))
     (later.terms (image p) bool_type))
-infer-later earlier now later (rule_contr p) (a ∷ d ∷ more) = tt
-infer-later earlier now later rule_not_intro [] = tt
-infer-later earlier now later rule_not_intro (a ∷ []) = kept-self (infer earlier rule_not_intro (a ∷ []))
-infer-later earlier now later rule_not_intro (a ∷ d ∷ more) = tt
-infer-later earlier now later rule_not_elim [] = tt
-infer-later earlier now later rule_not_elim (a ∷ []) = kept-self (infer earlier rule_not_elim (a ∷ []))
-infer-later earlier now later rule_not_elim (a ∷ d ∷ more) = tt
-infer-later earlier now later (rule_exists e w) [] = tt
-infer-later earlier now later (rule_exists e w) (a ∷ []) = kept-given (dest_exists (image e)) _ _
+infer-later earlier now later (rules.Contr p) (a ∷ d ∷ more) = tt
+infer-later earlier now later rules.NotIntro [] = tt
+infer-later earlier now later rules.NotIntro (a ∷ []) = kept-self (infer earlier rules.NotIntro (a ∷ []))
+infer-later earlier now later rules.NotIntro (a ∷ d ∷ more) = tt
+infer-later earlier now later rules.NotElim [] = tt
+infer-later earlier now later rules.NotElim (a ∷ []) = kept-self (infer earlier rules.NotElim (a ∷ []))
+infer-later earlier now later rules.NotElim (a ∷ d ∷ more) = tt
+infer-later earlier now later (rules.Exists e w) [] = tt
+infer-later earlier now later (rules.Exists e w) (a ∷ []) = kept-given (dest_exists (image e)) _ _
     (λ quantified. kept-required (is_known_formula earlier (image e) && knows_nameless earlier (image w) quantified.0 && same_term (fill (image w) quantified.1) a)
     (is_known_formula now (image e) && knows_nameless now (image w) quantified.0 && same_term (fill (image w) quantified.1) a) _
     (three-later (is_known_formula earlier (image e)) (knows_nameless earlier (image w) quantified.0) (is_known_formula now (image e)) (knows_nameless now (image w) quantified.0)
     (same_term (fill (image w) quantified.1) a) (later.terms (image e) bool_type) (later.terms (image w) quantified.0)))
-infer-later earlier now later (rule_exists e w) (a ∷ d ∷ more) = tt
-infer-later earlier now later (rule_choose v) [] = tt
-infer-later earlier now later (rule_choose v) (a ∷ []) = tt
-infer-later earlier now later (rule_choose v) (a ∷ b ∷ []) = kept-self (infer earlier (rule_choose v) (a ∷ b ∷ []))
-infer-later earlier now later (rule_choose v) (a ∷ b ∷ d ∷ more) = tt
+infer-later earlier now later (rules.Exists e w) (a ∷ d ∷ more) = tt
+infer-later earlier now later (rules.Choose v) [] = tt
+infer-later earlier now later (rules.Choose v) (a ∷ []) = tt
+infer-later earlier now later (rules.Choose v) (a ∷ b ∷ []) = kept-self (infer earlier (rules.Choose v) (a ∷ b ∷ []))
+infer-later earlier now later (rules.Choose v) (a ∷ b ∷ d ∷ more) = tt
 
 rule-later : (earlier now : Theory) → KnowsMore earlier now → (rule : InferenceRule) (premises : List Sequent) → AnswersAsStrong (rule_sequent now rule premises) (rule_sequent earlier rule premises)
 rule-later earlier now later rule premises =

@@ -6,6 +6,7 @@ mod fault;
 mod laws;
 mod limits;
 mod name;
+mod rule;
 mod sink;
 mod source;
 mod symbol;
@@ -22,6 +23,7 @@ pub use limits::{
     TERM_NESTING_LIMIT, TERM_NODES_LIMIT, TEXT_BYTES_LIMIT, TYPE_NESTING_LIMIT, TYPE_NODES_LIMIT,
 };
 pub use name::{is_constant_name, is_declared_type_name, is_identifier, is_type_variable_name};
+pub use rule::Rule;
 pub use sink::Sink;
 pub use source::Source;
 pub use symbol::Symbol;

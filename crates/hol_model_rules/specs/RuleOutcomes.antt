@@ -15,48 +15,45 @@ use Rattle.hol_model.specs.Derived.DerivedRules.{beta_conv_outcome, eqt_intro_ou
 use Rattle.hol_model.specs.Derived.DerivedRules.{conjunct2_outcome, disch_outcome, undisch_outcome, mp_outcome, spec_outcome, gen_outcome}
 use Rattle.hol_model.specs.Derived.DerivedRules.{exists_outcome, choose_outcome, disj1_outcome, disj2_outcome, disj_cases_outcome, contr_outcome}
 use Rattle.hol_model.specs.Derived.DerivedRules.{not_intro_outcome, not_elim_outcome}
-use Rattle.hol_model.specs.Derived.InferenceRules.{InferenceRule, rule_refl, rule_trans, rule_mk_comb, rule_abs, rule_beta, rule_assume, rule_eq_mp}
-use Rattle.hol_model.specs.Derived.InferenceRules.{rule_deduct_antisym, rule_inst, rule_inst_type, rule_eta_axiom, rule_select_axiom, rule_sym}
-use Rattle.hol_model.specs.Derived.InferenceRules.{rule_add_assum, rule_prove_hyp, rule_eqt_intro, rule_eqt_elim, rule_beta_conv, rule_conj}
-use Rattle.hol_model.specs.Derived.InferenceRules.{rule_conjunct1, rule_conjunct2, rule_disch, rule_undisch, rule_mp, rule_spec, rule_gen, rule_disj1}
-use Rattle.hol_model.specs.Derived.InferenceRules.{rule_disj2, rule_disj_cases, rule_contr, rule_not_intro, rule_not_elim, rule_exists, rule_choose}
+use Rattle.hol_model.specs.Derived.InferenceRules.{InferenceRule}
+use Rattle.hol_model.specs.declared.rule.Rule.TheVariants as rules
 use Rattle.hol_model_rules.specs.declared.rule_name.RuleName.{RuleName}
 use Rattle.hol_model_rules.specs.declared.rule_name.RuleName.TheVariants as named
 
 -- the rule of a name with these terms; none, where it takes another number of terms
 abbrev pub rule_with : RuleName → List NamedTerm → Option InferenceRule
-rule_with named.Refl (t ∷ []) = Some (rule_refl t)
-rule_with named.Trans [] = Some rule_trans
-rule_with named.MkComb [] = Some rule_mk_comb
-rule_with named.Abs (x ∷ []) = Some (rule_abs x)
-rule_with named.Beta (t ∷ []) = Some (rule_beta t)
-rule_with named.Assume (p ∷ []) = Some (rule_assume p)
-rule_with named.EqMp [] = Some rule_eq_mp
-rule_with named.DeductAntisym [] = Some rule_deduct_antisym
-rule_with named.EtaAxiom [] = Some rule_eta_axiom
-rule_with named.SelectAxiom [] = Some rule_select_axiom
-rule_with named.Sym [] = Some rule_sym
-rule_with named.AddAssum (p ∷ []) = Some (rule_add_assum p)
-rule_with named.ProveHyp [] = Some rule_prove_hyp
-rule_with named.EqtIntro [] = Some rule_eqt_intro
-rule_with named.EqtElim [] = Some rule_eqt_elim
-rule_with named.BetaConv (t ∷ []) = Some (rule_beta_conv t)
-rule_with named.Conj [] = Some rule_conj
-rule_with named.Conjunct1 [] = Some rule_conjunct1
-rule_with named.Conjunct2 [] = Some rule_conjunct2
-rule_with named.Disch (p ∷ []) = Some (rule_disch p)
-rule_with named.Undisch [] = Some rule_undisch
-rule_with named.Mp [] = Some rule_mp
-rule_with named.Spec (t ∷ []) = Some (rule_spec t)
-rule_with named.Gen (x ∷ []) = Some (rule_gen x)
-rule_with named.Disj1 (q ∷ []) = Some (rule_disj1 q)
-rule_with named.Disj2 (p ∷ []) = Some (rule_disj2 p)
-rule_with named.DisjCases [] = Some rule_disj_cases
-rule_with named.Contr (p ∷ []) = Some (rule_contr p)
-rule_with named.NotIntro [] = Some rule_not_intro
-rule_with named.NotElim [] = Some rule_not_elim
-rule_with named.Exists (e ∷ w ∷ []) = Some (rule_exists e w)
-rule_with named.Choose (v ∷ []) = Some (rule_choose v)
+rule_with named.Refl (t ∷ []) = Some (rules.Refl t)
+rule_with named.Trans [] = Some rules.Trans
+rule_with named.MkComb [] = Some rules.MkComb
+rule_with named.Abs (x ∷ []) = Some (rules.Abs x)
+rule_with named.Beta (t ∷ []) = Some (rules.Beta t)
+rule_with named.Assume (p ∷ []) = Some (rules.Assume p)
+rule_with named.EqMp [] = Some rules.EqMp
+rule_with named.DeductAntisym [] = Some rules.DeductAntisym
+rule_with named.EtaAxiom [] = Some rules.EtaAxiom
+rule_with named.SelectAxiom [] = Some rules.SelectAxiom
+rule_with named.Sym [] = Some rules.Sym
+rule_with named.AddAssum (p ∷ []) = Some (rules.AddAssum p)
+rule_with named.ProveHyp [] = Some rules.ProveHyp
+rule_with named.EqtIntro [] = Some rules.EqtIntro
+rule_with named.EqtElim [] = Some rules.EqtElim
+rule_with named.BetaConv (t ∷ []) = Some (rules.BetaConv t)
+rule_with named.Conj [] = Some rules.Conj
+rule_with named.Conjunct1 [] = Some rules.Conjunct1
+rule_with named.Conjunct2 [] = Some rules.Conjunct2
+rule_with named.Disch (p ∷ []) = Some (rules.Disch p)
+rule_with named.Undisch [] = Some rules.Undisch
+rule_with named.Mp [] = Some rules.Mp
+rule_with named.Spec (t ∷ []) = Some (rules.Spec t)
+rule_with named.Gen (x ∷ []) = Some (rules.Gen x)
+rule_with named.Disj1 (q ∷ []) = Some (rules.Disj1 q)
+rule_with named.Disj2 (p ∷ []) = Some (rules.Disj2 p)
+rule_with named.DisjCases [] = Some rules.DisjCases
+rule_with named.Contr (p ∷ []) = Some (rules.Contr p)
+rule_with named.NotIntro [] = Some rules.NotIntro
+rule_with named.NotElim [] = Some rules.NotElim
+rule_with named.Exists (e ∷ w ∷ []) = Some (rules.Exists e w)
+rule_with named.Choose (v ∷ []) = Some (rules.Choose v)
 rule_with rule terms = None
 
 -- ---- a rule's own outcome on its premises; with another number of premises it is refused
@@ -65,50 +62,50 @@ abbrev pub IsRefused : Result Theorem Fault → Type 0
 IsRefused result = result ≡ Err InvalidStep
 
 abbrev pub IsOutcomeOfNone : Theory → InferenceRule → Result Theorem Fault → Type 0
-IsOutcomeOfNone theory (rule_refl t) result = Answers result (refl_outcome theory t)
-IsOutcomeOfNone theory (rule_beta t) result = Answers result (beta_outcome theory t)
-IsOutcomeOfNone theory (rule_assume p) result = Answers result (assume_outcome theory p)
-IsOutcomeOfNone theory rule_eta_axiom result = Answers result (Ok (eta_theorem theory))
-IsOutcomeOfNone theory rule_select_axiom result = Answers result (Ok (select_theorem theory))
-IsOutcomeOfNone theory (rule_beta_conv t) result = AnswersStated result (image t ∷ []) (beta_conv_outcome theory t)
+IsOutcomeOfNone theory (rules.Refl t) result = Answers result (refl_outcome theory t)
+IsOutcomeOfNone theory (rules.Beta t) result = Answers result (beta_outcome theory t)
+IsOutcomeOfNone theory (rules.Assume p) result = Answers result (assume_outcome theory p)
+IsOutcomeOfNone theory rules.EtaAxiom result = Answers result (Ok (eta_theorem theory))
+IsOutcomeOfNone theory rules.SelectAxiom result = Answers result (Ok (select_theorem theory))
+IsOutcomeOfNone theory (rules.BetaConv t) result = AnswersStated result (image t ∷ []) (beta_conv_outcome theory t)
 IsOutcomeOfNone theory rule result = IsRefused result
 
 abbrev pub IsOutcomeOfOne : Theory → InferenceRule → Theorem → Result Theorem Fault → Type 0
-IsOutcomeOfOne theory (rule_abs x) a result = Answers result (abs_outcome theory x a)
-IsOutcomeOfOne theory (rule_inst theta) a result = AnswersSuch result (inst_refusal theory theta a) (IsInst theory theta a)
-IsOutcomeOfOne theory (rule_inst_type theta) a result = AnswersSuch result (inst_type_refusal theory theta a) (IsInstType theory theta a)
-IsOutcomeOfOne theory rule_sym a result = AnswersStated result (terms_of_theorem a) (sym_outcome a)
-IsOutcomeOfOne theory (rule_add_assum p) a result = AnswersStated result (image p ∷ terms_of_theorem a) (add_assum_outcome theory p a)
-IsOutcomeOfOne theory rule_eqt_intro a result = AnswersStated result (terms_of_theorem a) (eqt_intro_outcome a)
-IsOutcomeOfOne theory rule_eqt_elim a result = AnswersStated result (terms_of_theorem a) (eqt_elim_outcome a)
-IsOutcomeOfOne theory rule_conjunct1 a result = AnswersStated result (terms_of_theorem a) (conjunct1_outcome a)
-IsOutcomeOfOne theory rule_conjunct2 a result = AnswersStated result (terms_of_theorem a) (conjunct2_outcome a)
-IsOutcomeOfOne theory (rule_disch p) a result = AnswersStated result (image p ∷ terms_of_theorem a) (disch_outcome theory p a)
-IsOutcomeOfOne theory rule_undisch a result = AnswersStated result (terms_of_theorem a) (undisch_outcome a)
-IsOutcomeOfOne theory (rule_spec t) a result = AnswersStated result (image t ∷ terms_of_theorem a) (spec_outcome theory t a)
-IsOutcomeOfOne theory (rule_gen x) a result = AnswersStated result (terms_of_theorem a) (gen_outcome theory x a)
-IsOutcomeOfOne theory (rule_disj1 q) a result = AnswersStated result (image q ∷ terms_of_theorem a) (disj1_outcome theory q a)
-IsOutcomeOfOne theory (rule_disj2 p) a result = AnswersStated result (image p ∷ terms_of_theorem a) (disj2_outcome theory p a)
-IsOutcomeOfOne theory (rule_contr p) a result = AnswersStated result (image p ∷ terms_of_theorem a) (contr_outcome theory p a)
-IsOutcomeOfOne theory rule_not_intro a result = AnswersStated result (terms_of_theorem a) (not_intro_outcome a)
-IsOutcomeOfOne theory rule_not_elim a result = AnswersStated result (terms_of_theorem a) (not_elim_outcome a)
-IsOutcomeOfOne theory (rule_exists e w) a result = AnswersStated result (image e ∷ image w ∷ terms_of_theorem a) (exists_outcome theory e w a)
+IsOutcomeOfOne theory (rules.Abs x) a result = Answers result (abs_outcome theory x a)
+IsOutcomeOfOne theory (rules.Inst theta) a result = AnswersSuch result (inst_refusal theory theta.items a) (IsInst theory theta.items a)
+IsOutcomeOfOne theory (rules.InstType theta) a result = AnswersSuch result (inst_type_refusal theory theta.items a) (IsInstType theory theta.items a)
+IsOutcomeOfOne theory rules.Sym a result = AnswersStated result (terms_of_theorem a) (sym_outcome a)
+IsOutcomeOfOne theory (rules.AddAssum p) a result = AnswersStated result (image p ∷ terms_of_theorem a) (add_assum_outcome theory p a)
+IsOutcomeOfOne theory rules.EqtIntro a result = AnswersStated result (terms_of_theorem a) (eqt_intro_outcome a)
+IsOutcomeOfOne theory rules.EqtElim a result = AnswersStated result (terms_of_theorem a) (eqt_elim_outcome a)
+IsOutcomeOfOne theory rules.Conjunct1 a result = AnswersStated result (terms_of_theorem a) (conjunct1_outcome a)
+IsOutcomeOfOne theory rules.Conjunct2 a result = AnswersStated result (terms_of_theorem a) (conjunct2_outcome a)
+IsOutcomeOfOne theory (rules.Disch p) a result = AnswersStated result (image p ∷ terms_of_theorem a) (disch_outcome theory p a)
+IsOutcomeOfOne theory rules.Undisch a result = AnswersStated result (terms_of_theorem a) (undisch_outcome a)
+IsOutcomeOfOne theory (rules.Spec t) a result = AnswersStated result (image t ∷ terms_of_theorem a) (spec_outcome theory t a)
+IsOutcomeOfOne theory (rules.Gen x) a result = AnswersStated result (terms_of_theorem a) (gen_outcome theory x a)
+IsOutcomeOfOne theory (rules.Disj1 q) a result = AnswersStated result (image q ∷ terms_of_theorem a) (disj1_outcome theory q a)
+IsOutcomeOfOne theory (rules.Disj2 p) a result = AnswersStated result (image p ∷ terms_of_theorem a) (disj2_outcome theory p a)
+IsOutcomeOfOne theory (rules.Contr p) a result = AnswersStated result (image p ∷ terms_of_theorem a) (contr_outcome theory p a)
+IsOutcomeOfOne theory rules.NotIntro a result = AnswersStated result (terms_of_theorem a) (not_intro_outcome a)
+IsOutcomeOfOne theory rules.NotElim a result = AnswersStated result (terms_of_theorem a) (not_elim_outcome a)
+IsOutcomeOfOne theory (rules.Exists e w) a result = AnswersStated result (image e ∷ image w ∷ terms_of_theorem a) (exists_outcome theory e w a)
 IsOutcomeOfOne theory rule a result = IsRefused result
 
 abbrev pub IsOutcomeOfTwo : Theory → InferenceRule → Theorem → Theorem → Result Theorem Fault → Type 0
-IsOutcomeOfTwo theory rule_trans a b result = Answers result (trans_outcome theory a b)
-IsOutcomeOfTwo theory rule_mk_comb a b result = Answers result (mk_comb_outcome theory a b)
-IsOutcomeOfTwo theory rule_eq_mp a b result = Answers result (eq_mp_outcome theory a b)
-IsOutcomeOfTwo theory rule_deduct_antisym a b result = Answers result (deduct_antisym_outcome theory a b)
-IsOutcomeOfTwo theory rule_prove_hyp a b result = AnswersStated result (terms_of_theorem a ++ terms_of_theorem b) (prove_hyp_outcome a b)
-IsOutcomeOfTwo theory rule_conj a b result = AnswersStated result (terms_of_theorem a ++ terms_of_theorem b) (conj_outcome a b)
-IsOutcomeOfTwo theory rule_mp a b result = AnswersStated result (terms_of_theorem a ++ terms_of_theorem b) (mp_outcome a b)
-IsOutcomeOfTwo theory (rule_choose v) a b result =
+IsOutcomeOfTwo theory rules.Trans a b result = Answers result (trans_outcome theory a b)
+IsOutcomeOfTwo theory rules.MkComb a b result = Answers result (mk_comb_outcome theory a b)
+IsOutcomeOfTwo theory rules.EqMp a b result = Answers result (eq_mp_outcome theory a b)
+IsOutcomeOfTwo theory rules.DeductAntisym a b result = Answers result (deduct_antisym_outcome theory a b)
+IsOutcomeOfTwo theory rules.ProveHyp a b result = AnswersStated result (terms_of_theorem a ++ terms_of_theorem b) (prove_hyp_outcome a b)
+IsOutcomeOfTwo theory rules.Conj a b result = AnswersStated result (terms_of_theorem a ++ terms_of_theorem b) (conj_outcome a b)
+IsOutcomeOfTwo theory rules.Mp a b result = AnswersStated result (terms_of_theorem a ++ terms_of_theorem b) (mp_outcome a b)
+IsOutcomeOfTwo theory (rules.Choose v) a b result =
     AnswersStated result (image v ∷ terms_of_theorem a ++ terms_of_theorem b) (choose_outcome theory v a b)
 IsOutcomeOfTwo theory rule a b result = IsRefused result
 
 abbrev pub IsOutcomeOfThree : Theory → InferenceRule → Theorem → Theorem → Theorem → Result Theorem Fault → Type 0
-IsOutcomeOfThree theory rule_disj_cases a b c result =
+IsOutcomeOfThree theory rules.DisjCases a b c result =
     AnswersStated result (terms_of_theorem a ++ (terms_of_theorem b ++ terms_of_theorem c)) (disj_cases_outcome a b c)
 IsOutcomeOfThree theory rule a b c result = IsRefused result
 

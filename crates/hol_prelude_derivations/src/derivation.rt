@@ -10,7 +10,7 @@ ghost use Rattle.hol_prelude_derivations.specs.Derivations.{ap_term_of, ap_thm_o
 
 use crate::rule::{Axiom, PairRule, TermRule};
 use crate::sketch::{TermSketch, TypeSketch, term_of, type_of};
-use hol_journal::{Rec, Recorder};
+use hol_journal::{Inference, Rec, Recorder};
 use hol_model::Fault;
 use hol_terms::Term;
 
@@ -98,25 +98,28 @@ fn earlier_theorem(_recorder: &mut Recorder, earlier: &[Rec], number: usize) -> 
 }
 
 // ETA or SELECT.
+#[tactic(auto, using(crate::proofs::DerivationLemmas::inference_goes_on))]
 fn by_axiom(recorder: &mut Recorder, rule: Axiom) -> Result<Rec, Fault>
     ensures outcome { Answers (theorem_in result) (Ok (axiom_theorem rule recorder.old.theory)) }
     ensures goes_on { GoesOn recorder.old recorder.new result }
 {
     match rule {
-        Axiom::Eta => recorder.eta(),
-        Axiom::Select => recorder.select(),
+        Axiom::Eta => recorder.infer(Inference::Eta),
+        Axiom::Select => recorder.infer(Inference::Select),
     }
 }
 
 // REFL of a term.
+#[tactic(auto, using(crate::proofs::DerivationLemmas::inference_goes_on))]
 fn reflexive(recorder: &mut Recorder, term: &Term) -> Result<Rec, Fault>
     ensures outcome { Answers (theorem_in result) (refl_outcome recorder.old.theory term.now) }
     ensures goes_on { GoesOn recorder.old recorder.new result }
 {
-    recorder.refl(term)
+    recorder.infer(Inference::Refl(term))
 }
 
 // REFL, BETA or ASSUME.
+#[tactic(auto, using(crate::proofs::DerivationLemmas::inference_goes_on))]
 fn by_term(recorder: &mut Recorder, rule: TermRule, term: &TermSketch<'_>) -> Result<Rec, Fault>
     ensures outcome { Answers (theorem_in result) (followed (term_outcome term.now) (λ term. term_rule_outcome rule recorder.old.theory term)) }
     ensures goes_on { GoesOn recorder.old recorder.new result }
@@ -125,12 +128,13 @@ fn by_term(recorder: &mut Recorder, rule: TermRule, term: &TermSketch<'_>) -> Re
     let term = term_of(alloc, term)?;
     match rule {
         TermRule::Refl => reflexive(recorder, &term),
-        TermRule::Beta => recorder.beta(&term),
-        TermRule::Assume => recorder.assume(&term),
+        TermRule::Beta => recorder.infer(Inference::Beta(&term)),
+        TermRule::Assume => recorder.infer(Inference::Assume(&term)),
     }
 }
 
 // A rule for two theorems.
+#[tactic(auto, using(crate::proofs::DerivationLemmas::inference_goes_on))]
 fn by_pair(recorder: &mut Recorder, rule: PairRule, first: &Rec, second: &Rec) -> Result<Rec, Fault>
     requires first { IsMade recorder.old first.now }
     requires second { IsMade recorder.old second.now }
@@ -138,10 +142,10 @@ fn by_pair(recorder: &mut Recorder, rule: PairRule, first: &Rec, second: &Rec) -
     ensures goes_on { GoesOn recorder.old recorder.new result }
 {
     match rule {
-        PairRule::Trans => recorder.trans(first, second),
-        PairRule::MkComb => recorder.mk_comb(first, second),
-        PairRule::EqMp => recorder.eq_mp(first, second),
-        PairRule::DeductAntisym => recorder.deduct_antisym(first, second),
+        PairRule::Trans => recorder.infer(Inference::Trans(first, second)),
+        PairRule::MkComb => recorder.infer(Inference::MkComb(first, second)),
+        PairRule::EqMp => recorder.infer(Inference::EqMp(first, second)),
+        PairRule::DeductAntisym => recorder.infer(Inference::DeductAntisym(first, second)),
     }
 }
 
@@ -214,6 +218,7 @@ fn by_sym(recorder: &mut Recorder, theorem: &Rec) -> Result<Rec, Fault>
 }
 
 // ABS over a variable.
+#[tactic(auto, using(crate::proofs::DerivationLemmas::inference_goes_on))]
 fn by_abs(recorder: &mut Recorder, variable: &TermSketch<'_>, theorem: &Rec) -> Result<Rec, Fault>
     requires { IsMade recorder.old theorem.now }
     ensures outcome { Answers (theorem_in result) (followed (term_outcome variable.now) (λ variable. abs_outcome recorder.old.theory variable theorem.now.theorem)) }
@@ -221,7 +226,7 @@ fn by_abs(recorder: &mut Recorder, variable: &TermSketch<'_>, theorem: &Rec) -> 
 {
     let alloc = recorder.alloc();
     let variable = term_of(alloc, variable)?;
-    recorder.abs(&variable, theorem)
+    recorder.infer(Inference::Abs(&variable, theorem))
 }
 
 // EQ_MP of REFL of a term, and a theorem of its image.
@@ -253,7 +258,7 @@ fn by_inst(
     if recorder.thm(theorem).hyps().len() != 0 {
         return Err(Fault::BadShape);
     }
-    let instance = recorder.inst(&pairs, theorem)?;
+    let instance = recorder.infer(Inference::Inst(&pairs, theorem))?;
     renamed(recorder, &conclusion, &instance)
 }
 
@@ -275,6 +280,6 @@ fn by_inst_type(
     if recorder.thm(theorem).hyps().len() != 0 {
         return Err(Fault::BadShape);
     }
-    let instance = recorder.inst_type(&pairs, theorem)?;
+    let instance = recorder.infer(Inference::InstType(&pairs, theorem))?;
     renamed(recorder, &conclusion, &instance)
 }

@@ -22,7 +22,7 @@ use Rattle.hol_model.specs.Logic.NamedLogic.{Abstracted}
 use Rattle.hol_model.specs.Logic.NamedLogic as named
 use Rattle.hol_model.specs.Logic.NamelessLogic as nameless
 use Rattle.hol_model.specs.Derived.DerivedRules.{Stated, images, stated, stated_up_to_names, body_with, is_of_type, is_free_in_some, spec_outcome, gen_outcome, exists_outcome, choose_outcome}
-use Rattle.hol_model.specs.Derived.InferenceRules.{rule_spec, rule_gen, rule_exists, rule_choose}
+use Rattle.hol_model.specs.declared.rule.Rule.TheVariants as rules
 use Rattle.hol_model.specs.Derived.Inference.{given, require, conclude, all, all_without_variable, all_but_without_variable, is_free_in_none, is_known_formula, drawn, unchanged}
 use Rattle.hol_model.proofs.Terms.HolTypeEq.{type_eq-Decides}
 use Rattle.hol_model.proofs.Tests.{same_variable-self}
@@ -123,7 +123,7 @@ walk theory term = go (knows_types theory term) refl (knows_constants theory ter
 
 -- ---- rules
 
-pub drawn-gen : (theory : Theory) (x : NamedTerm) (a : Theorem) → Draws theory (rule_gen x) (a ∷ []) (gen_outcome theory x a)
+pub drawn-gen : (theory : Theory) (x : NamedTerm) (a : Theorem) → Draws theory (rules.Gen x) (a ∷ []) (gen_outcome theory x a)
 drawn-gen theory (variable name ty) a = go (knows_type theory ty)
   where
     passed_or_not : (some : Bool) → StatesDrawn (unless (not some) FreeInHypothesis (stated (images a) (named.forall_term name ty a.conclusion)))
@@ -148,7 +148,7 @@ module _ (journal : Journal) (logic : Stored) (has : HasLogic journal logic) (le
   at : (name : List ℕ) → generic_type logical_definitions name ≡ Some (quantifier type_a) → (a : Theorem) → IsPremise journal.theory a → Quantified journal.theory name a.conclusion bool_type
   at name generic a premise = quantified journal.theory name (logical-type journal logic has legal name (quantifier type_a) generic) a.conclusion bool_type premise.known
 
-  pub drawn-spec : (t : NamedTerm) (ty : HolType) (a : Theorem) → type_of t ≡ Some ty → IsPremise journal.theory a → Draws journal.theory (rule_spec t) (a ∷ []) (spec_outcome journal.theory t a)
+  pub drawn-spec : (t : NamedTerm) (ty : HolType) (a : Theorem) → type_of t ≡ Some ty → IsPremise journal.theory a → Draws journal.theory (rules.Spec t) (a ∷ []) (spec_outcome journal.theory t a)
   drawn-spec t ty a typed premise = elim (at forall_name refl a premise) [
     | parted parts dest is known whole ↦ rw (dest, is)
         (walked journal.theory t ty parts.ty typed TypeMismatch (stated_up_to_names (images a) (body_with parts t))
@@ -157,7 +157,7 @@ module _ (journal : Journal) (logic : Stored) (has : HasLogic journal logic) (le
     | apart dest is ↦ rw (dest, is) tt
   ]
 
-  pub drawn-choose : (v : NamedTerm) (a b : Theorem) → IsPremise journal.theory a → Draws journal.theory (rule_choose v) (a ∷ b ∷ []) (choose_outcome journal.theory v a b)
+  pub drawn-choose : (v : NamedTerm) (a b : Theorem) → IsPremise journal.theory a → Draws journal.theory (rules.Choose v) (a ∷ b ∷ []) (choose_outcome journal.theory v a b)
   drawn-choose (variable name ty) a b premise = elim (at exists_name refl a premise) [
     | parted parts dest is known whole ↦ rw (dest, is) (go parts known (type_eq parts.ty ty) refl)
     | apart dest is ↦ rw (dest, is) tt
@@ -198,7 +198,7 @@ module _ (journal : Journal) (logic : Stored) (has : HasLogic journal logic) (le
   drawn-choose (combination f x) a b premise = tt
   drawn-choose (abstraction name ty body) a b premise = tt
 
-  pub drawn-exists : (e w : NamedTerm) (ty s : HolType) (a : Theorem) → type_of e ≡ Some ty → type_of w ≡ Some s → Draws journal.theory (rule_exists e w) (a ∷ []) (exists_outcome journal.theory e w a)
+  pub drawn-exists : (e w : NamedTerm) (ty s : HolType) (a : Theorem) → type_of e ≡ Some ty → type_of w ≡ Some s → Draws journal.theory (rules.Exists e w) (a ∷ []) (exists_outcome journal.theory e w a)
   drawn-exists e w ty s a typed typed_w = elim (walk journal.theory e) [
     | passes tests none ↦ of_known tests none (quantified journal.theory exists_name generic e ty ((is_known-Decides journal.theory e ty typed).0 tests))
     | fails fault tests there ↦ of_unknown fault tests there (named.dest_exists e) (nameless.dest_exists (image e))
@@ -223,7 +223,7 @@ module _ (journal : Journal) (logic : Stored) (has : HasLogic journal logic) (le
       of_witness false walked_w alike = tt
 
       of_known : is_known journal.theory e ≡ true → first_unknown journal.theory e ≡ None → Quantified journal.theory exists_name e ty
-          → Draws journal.theory (rule_exists e w) (a ∷ []) (exists_outcome journal.theory e w a)
+          → Draws journal.theory (rules.Exists e w) (a ∷ []) (exists_outcome journal.theory e w a)
       of_known tests none (parted parts dest is known whole) =
           let passed : is_known_formula journal.theory (image e) ≡ true = formula ∙ rw (whole, tests) refl in
           rw (dest, is, none, passed, knows-image journal.theory w s parts.ty typed_w, typed_w)

@@ -9,10 +9,11 @@ ghost use Rattle.hol_model.specs.Terms.NamedTerm as named;
 ghost use Rattle.hol_model.specs.Terms.Nameless.{image, same_term};
 ghost use Rattle.hol_model.specs.Logic.Derivable.{without};
 ghost use Rattle.hol_model.specs.Derived.DerivedRules.{AnswersStated, images, is_roomy, terms_of_theorem, choose_outcome};
-ghost use Rattle.hol_model.specs.Derived.InferenceRules.{rule_choose};
+ghost use Rattle.hol_model.specs.declared.rule.Rule.TheVariants as rules;
 ghost use Rattle.hol_journal.specs.Journal.{IsMade, theorem_in};
 ghost use Rattle.hol_prelude.specs.HasLogic.{HasLogic};
-ghost use Rattle.hol_equal.specs.Sequents.{DerivesIf, Continues};
+ghost use Rattle.hol_journal.specs.Growth.{Continues};
+ghost use Rattle.hol_equal.specs.Sequents.{DerivesIf};
 ghost use Rattle.hol_equal.specs.Inferred.{Infers};
 ghost use Rattle.hol_quant.specs.Witnesses.{IsAtVariable, MayChoose, existential, redex, witnessed, leave_room};
 
@@ -145,7 +146,7 @@ pub fn choose(
     ensures continues { Continues recorder.old recorder.new result }
     ensures outcome { AnswersStated (theorem_in result) (image variable.now ∷ terms_of_theorem first.now.theorem
         ++ terms_of_theorem second.now.theorem) (choose_outcome recorder.old.theory variable.now first.now.theorem second.now.theorem) }
-    ensures inferred { Infers recorder.old.theory (rule_choose variable.now) (first.now.theorem ∷ second.now.theorem ∷ []) (theorem_in result) }
+    ensures inferred { Infers recorder.old.theory (rules.Choose variable.now) (first.now.theorem ∷ second.now.theorem ∷ []) (theorem_in result) }
 {
     let alloc = recorder.alloc();
     let formula = conclusion_of(recorder, first);

@@ -11,11 +11,12 @@ ghost use Rattle.hol_model.specs.Logic.Derivable.{nameless_equation};
 ghost use Rattle.hol_model.specs.Kernel.Rules.{first_unknown};
 ghost use Rattle.hol_model.specs.Logic.Theory.{IsKnown};
 ghost use Rattle.hol_model.specs.Derived.DerivedRules.{AnswersStated, images, is_roomy, terms_of_theorem, exists_outcome};
-ghost use Rattle.hol_model.specs.Derived.InferenceRules.{rule_exists};
+ghost use Rattle.hol_model.specs.declared.rule.Rule.TheVariants as rules;
 ghost use Rattle.hol_journal.specs.Journal.{IsMade, theorem_in};
 ghost use Rattle.hol_prelude.specs.HasLogic.{HasLogic};
 ghost use Rattle.hol_equal.specs.Room.{Room, FitsIf};
-ghost use Rattle.hol_equal.specs.Sequents.{Shows, DerivesIf, Continues};
+ghost use Rattle.hol_journal.specs.Growth.{Continues};
+ghost use Rattle.hol_equal.specs.Sequents.{Shows, DerivesIf};
 ghost use Rattle.hol_equal.specs.Inferred.{Infers};
 ghost use Rattle.hol_quant.specs.QuantifiedParts.{IsWitnessed, IsInstance, witnessed_terms};
 
@@ -150,7 +151,7 @@ pub fn exists(
     ensures continues { Continues recorder.old recorder.new result }
     ensures outcome { AnswersStated (theorem_in result) (image formula.now ∷ image witness.now ∷ terms_of_theorem premise.now.theorem)
         (exists_outcome recorder.old.theory formula.now witness.now premise.now.theorem) }
-    ensures inferred { Infers recorder.old.theory (rule_exists formula.now witness.now) (premise.now.theorem ∷ []) (theorem_in result) }
+    ensures inferred { Infers recorder.old.theory (rules.Exists formula.now witness.now) (premise.now.theorem ∷ []) (theorem_in result) }
 {
     let alloc = recorder.alloc();
     let _formula_type = formula.ty();

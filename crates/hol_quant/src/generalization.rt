@@ -10,11 +10,12 @@ ghost use Rattle.hol_model.specs.Terms.Nameless.{free, const, app, image};
 ghost use Rattle.hol_model.specs.Logic.Derivable.{nameless_equation};
 ghost use Rattle.hol_model.specs.Kernel.Rules.{is_free_in_hypotheses};
 ghost use Rattle.hol_model.specs.Derived.DerivedRules.{AnswersStated, images, terms_of_theorem, gen_outcome};
-ghost use Rattle.hol_model.specs.Derived.InferenceRules.{rule_gen};
+ghost use Rattle.hol_model.specs.declared.rule.Rule.TheVariants as rules;
 ghost use Rattle.hol_journal.specs.Journal.{IsMade, theorem_in};
 ghost use Rattle.hol_prelude.specs.HasLogic.{HasLogic};
 ghost use Rattle.hol_equal.specs.Room.{Room, FitsIf};
-ghost use Rattle.hol_equal.specs.Sequents.{Shows, DerivesIf, IsPast, Continues};
+ghost use Rattle.hol_journal.specs.Growth.{Continues};
+ghost use Rattle.hol_equal.specs.Sequents.{Shows, DerivesIf, IsPast};
 ghost use Rattle.hol_equal.specs.Inferred.{Infers};
 ghost use Rattle.hol_quant.specs.PredicateLemmas.{is_always, over_predicate};
 ghost use Rattle.hol_quant.specs.Universals.{IsKnownVariable, IsAbstracted, for_all, MayGeneralize, FitsForAll};
@@ -129,7 +130,7 @@ pub fn generalize(
     requires premise { IsMade recorder.old premise.now }
     ensures continues { Continues recorder.old recorder.new result }
     ensures outcome { AnswersStated (theorem_in result) (terms_of_theorem premise.now.theorem) (gen_outcome recorder.old.theory binder.now premise.now.theorem) }
-    ensures inferred { Infers recorder.old.theory (rule_gen binder.now) (premise.now.theorem ∷ []) (theorem_in result) }
+    ensures inferred { Infers recorder.old.theory (rules.Gen binder.now) (premise.now.theorem ∷ []) (theorem_in result) }
 {
     let alloc = recorder.alloc();
     let Some((name, ty)) = binder.dest_var() else {

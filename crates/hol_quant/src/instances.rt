@@ -9,7 +9,8 @@ ghost use Rattle.hol_model.specs.Terms.Name.{is_identifier};
 ghost use Rattle.hol_model.specs.Logic.Theory.{IsKnown, type_a};
 ghost use Rattle.hol_journal.specs.Journal.{IsMade};
 ghost use Rattle.hol_equal.specs.Formulas.{IsFormula};
-ghost use Rattle.hol_equal.specs.Sequents.{Shows, DerivesIf, Continues};
+ghost use Rattle.hol_journal.specs.Growth.{Continues};
+ghost use Rattle.hol_equal.specs.Sequents.{Shows, DerivesIf};
 ghost use Rattle.hol_quant.specs.PredicateLemmas.{PredicateFits, at_predicate, lemma_fits, FormulaFits, at_formula, formula_lemma_fits};
 
 use hol_bool::formula_pair;

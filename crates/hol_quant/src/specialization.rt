@@ -4,10 +4,11 @@ ghost use Rattle.hol_model.specs.Logic.Logic.{forall_name, quantifier};
 ghost use Rattle.hol_model.specs.Terms.Nameless.{image};
 ghost use Rattle.hol_model.specs.Logic.Theory.{generic_type, type_a};
 ghost use Rattle.hol_model.specs.Derived.DerivedRules.{AnswersStated, terms_of_theorem, spec_outcome};
-ghost use Rattle.hol_model.specs.Derived.InferenceRules.{rule_spec};
+ghost use Rattle.hol_model.specs.declared.rule.Rule.TheVariants as rules;
 ghost use Rattle.hol_journal.specs.Journal.{IsMade, theorem_in};
 ghost use Rattle.hol_prelude.specs.HasLogic.{HasLogic};
-ghost use Rattle.hol_equal.specs.Sequents.{Shows, Continues};
+ghost use Rattle.hol_journal.specs.Growth.{Continues};
+ghost use Rattle.hol_equal.specs.Sequents.{Shows};
 ghost use Rattle.hol_equal.specs.Inferred.{Infers};
 ghost use Rattle.hol_quant.specs.PredicateLemmas.{applied, over_predicate};
 
@@ -57,7 +58,7 @@ pub fn spec(recorder: &mut Recorder, logic: &Bool, term: &Term, premise: &Rec) -
     requires premise { IsMade recorder.old premise.now }
     ensures continues { Continues recorder.old recorder.new result }
     ensures outcome { AnswersStated (theorem_in result) (image term.now ∷ terms_of_theorem premise.now.theorem) (spec_outcome recorder.old.theory term.now premise.now.theorem) }
-    ensures inferred { Infers recorder.old.theory (rule_spec term.now) (premise.now.theorem ∷ []) (theorem_in result) }
+    ensures inferred { Infers recorder.old.theory (rules.Spec term.now) (premise.now.theorem ∷ []) (theorem_in result) }
 {
     let _type = term.ty();
     let _conclusion = conclusion_of(recorder, premise);

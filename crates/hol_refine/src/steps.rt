@@ -2,7 +2,7 @@
 ghost use Rattle.std.specs.Prelude.{◌≡◌, [], ◌∷◌, Ok};
 ghost use Rattle.hol_model.specs.Logic.NamedLogic.{is_true};
 ghost use Rattle.hol_model.specs.Derived.DerivedRules.{named};
-ghost use Rattle.hol_model.specs.Derived.InferenceRules.{rule_eqt_elim, rule_eq_mp, rule_sym};
+ghost use Rattle.hol_model.specs.declared.rule.Rule.TheVariants as rules;
 ghost use Rattle.hol_model.specs.Goals.Justifications as trees;
 ghost use Rattle.hol_model.specs.Goals.Justifications.{by_rule};
 ghost use Rattle.hol_model.specs.Refining.Refiners.{converted, proved_by_lemma, toward, leaves, one_part, two_parts, from_first};
@@ -27,7 +27,7 @@ fn is_truth(term: &Term) -> bool
 
 // `p`, from the lemma `p <=> T`.
 fn by_truth(alloc: Global, number: usize) -> Result<Just, Fault>
-    ensures { Makes result (by_rule rule_eqt_elim (one_part (trees.lemma number))) }
+    ensures { Makes result (by_rule rules.EqtElim (one_part (trees.lemma number))) }
 {
     let equation = lemma(alloc, number)?;
     by_one(alloc, Rule::EqtElim, equation)
@@ -35,7 +35,7 @@ fn by_truth(alloc: Global, number: usize) -> Result<Just, Fault>
 
 // `q <=> p`, from the lemma `p <=> q`.
 fn turned(alloc: Global, number: usize) -> Result<Just, Fault>
-    ensures { Makes result (by_rule rule_sym (one_part (trees.lemma number))) }
+    ensures { Makes result (by_rule rules.Sym (one_part (trees.lemma number))) }
 {
     let equation = lemma(alloc, number)?;
     by_one(alloc, Rule::Sym, equation)
@@ -43,7 +43,7 @@ fn turned(alloc: Global, number: usize) -> Result<Just, Fault>
 
 // `p`, from the lemma `p <=> q` and the subgoal `q`.
 fn by_equation(alloc: Global, number: usize) -> Result<Just, Fault>
-    ensures { Makes result (by_rule rule_eq_mp (two_parts (by_rule rule_sym (one_part (trees.lemma number))) from_first)) }
+    ensures { Makes result (by_rule rules.EqMp (two_parts (by_rule rules.Sym (one_part (trees.lemma number))) from_first)) }
 {
     let equation = turned(alloc, number)?;
     let first = sub(alloc, 0)?;
@@ -52,7 +52,7 @@ fn by_equation(alloc: Global, number: usize) -> Result<Just, Fault>
 
 // A step that closes the goal by the lemma `p <=> T`.
 fn closed_by_truth(alloc: Global, number: usize) -> Result<Step, Fault>
-    ensures { AnswersStep (Ok (record { goals = []; justification = by_rule rule_eqt_elim (one_part (trees.lemma number)) })) (step_in result) }
+    ensures { AnswersStep (Ok (record { goals = []; justification = by_rule rules.EqtElim (one_part (trees.lemma number)) })) (step_in result) }
 {
     let just = by_truth(alloc, number)?;
     closed(alloc, just)
@@ -61,7 +61,7 @@ fn closed_by_truth(alloc: Global, number: usize) -> Result<Step, Fault>
 // The step to the right side of the lemma `p <=> q`.
 fn to_right(alloc: Global, number: usize, goal: &Goal, right: &Term) -> Result<Step, Fault>
     ensures { AnswersStep (leaves (toward (goal_of goal.now) (named right.now) ∷ [])
-        (by_rule rule_eq_mp (two_parts (by_rule rule_sym (one_part (trees.lemma number))) from_first))) (step_in result) }
+        (by_rule rules.EqMp (two_parts (by_rule rules.Sym (one_part (trees.lemma number))) from_first))) (step_in result) }
 {
     let just = by_equation(alloc, number)?;
     to_target(alloc, goal, right, just)

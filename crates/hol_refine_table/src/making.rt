@@ -4,10 +4,9 @@ ghost use Rattle.hol_model.specs.declared.fault.Fault.TheVariants.{Memory};
 ghost use Rattle.hol_model.specs.Derived.DerivedRules.{Conclusion, named, IsConclusion};
 ghost use Rattle.hol_model.specs.Goals.Justifications.{Justification, by_rule, no_parts};
 ghost use Rattle.hol_model.specs.Goals.Justifications as trees;
-ghost use Rattle.hol_model.specs.Derived.InferenceRules.{rule_disj_cases};
+ghost use Rattle.hol_model.specs.declared.rule.Rule.TheVariants as rules;
 ghost use Rattle.hol_model.specs.Refining.Refiners as refiners;
 ghost use Rattle.hol_model.specs.Refining.Refiners.{StatedGoal, from_assumptions, one_part, two_parts, three_parts, leaves, from_first, from_second};
-ghost use Rattle.hol_just.specs.Rules.{rule_of};
 ghost use Rattle.hol_just.specs.Steps.{tree_of, goal_of};
 ghost use Rattle.hol_refine_table.specs.Answers.{step_in, IsGoal, AnswersStep, Makes, MakesBoth, MakesOver, is_shallow};
 ghost use Rattle.hol_refine_table.specs.Rows.{two_targets};
@@ -19,14 +18,14 @@ use std::alloc::Global;
 
 /// What a rule draws from nothing.
 pub(crate) fn by_none(alloc: Global, rule: Rule) -> Result<Just, Fault>
-    ensures { Makes result (by_rule (rule_of rule) no_parts) }
+    ensures { Makes result (by_rule rule no_parts) }
 {
     step(alloc, rule, &[])
 }
 
 /// What a rule draws from one premise. Refused: Memory.
 pub fn by_one(alloc: Global, rule: Rule, part: Just) -> Result<Just, Fault>
-    ensures { (t : Justification) → tree_of part ≡ t → is_shallow t ≡ true → Makes result (by_rule (rule_of rule) (one_part t)) }
+    ensures { (t : Justification) → tree_of part ≡ t → is_shallow t ≡ true → Makes result (by_rule rule (one_part t)) }
 {
     let parts = [part];
     step(alloc, rule, &parts)
@@ -34,7 +33,7 @@ pub fn by_one(alloc: Global, rule: Rule, part: Just) -> Result<Just, Fault>
 
 /// What a rule draws from two premises. Refused: Memory.
 pub fn by_two(alloc: Global, rule: Rule, first: Just, second: Just) -> Result<Just, Fault>
-    ensures { (t u : Justification) → tree_of first ≡ t → tree_of second ≡ u → is_shallow t ≡ true → is_shallow u ≡ true → Makes result (by_rule (rule_of rule) (two_parts t u)) }
+    ensures { (t u : Justification) → tree_of first ≡ t → tree_of second ≡ u → is_shallow t ≡ true → is_shallow u ≡ true → Makes result (by_rule rule (two_parts t u)) }
 {
     let parts = [first, second];
     step(alloc, rule, &parts)
@@ -49,7 +48,7 @@ pub(crate) fn by_three(
     third: Just,
 ) -> Result<Just, Fault>
     ensures { (t u v : Justification) → tree_of first ≡ t → tree_of second ≡ u → tree_of third ≡ v
-        → MakesOver (t ∷ u ∷ v ∷ []) result (by_rule (rule_of rule) (three_parts t u v)) }
+        → MakesOver (t ∷ u ∷ v ∷ []) result (by_rule rule (three_parts t u v)) }
 {
     let parts = [first, second, third];
     step(alloc, rule, &parts)
@@ -76,7 +75,7 @@ fn both(first: Result<Just, Fault>, second: Result<Just, Fault>) -> Result<(Just
 
 /// What a rule draws from a premise, where that was made.
 pub(crate) fn from_one(alloc: Global, rule: Rule, part: Result<Just, Fault>) -> Result<Just, Fault>
-    ensures { (t : Justification) → Makes part t → is_shallow t ≡ true → Makes result (by_rule (rule_of rule) (one_part t)) }
+    ensures { (t : Justification) → Makes part t → is_shallow t ≡ true → Makes result (by_rule rule (one_part t)) }
 {
     match part {
         Ok(part) => by_one(alloc, rule, part),
@@ -94,7 +93,7 @@ pub(crate) fn from_two(
     first: Result<Just, Fault>,
     second: Result<Just, Fault>,
 ) -> Result<Just, Fault>
-    ensures { (t u : Justification) → Makes first t → Makes second u → is_shallow t ≡ true → is_shallow u ≡ true → Makes result (by_rule (rule_of rule) (two_parts t u)) }
+    ensures { (t u : Justification) → Makes first t → Makes second u → is_shallow t ≡ true → is_shallow u ≡ true → Makes result (by_rule rule (two_parts t u)) }
 {
     match both(first, second) {
         Ok((first, second)) => by_two(alloc, rule, first, second),
@@ -121,7 +120,7 @@ pub(crate) fn stored_theorem(alloc: Global, name: &str) -> Result<Just, Fault>
 
 /// What DISJ_CASES draws from a stored theorem and both subgoals.
 pub(crate) fn by_disj_cases(alloc: Global, name: &str) -> Result<Just, Fault>
-    ensures { Makes result (by_rule rule_disj_cases (three_parts (trees.named name.now) from_first from_second)) }
+    ensures { Makes result (by_rule rules.DisjCases (three_parts (trees.named name.now) from_first from_second)) }
 {
     let theorem = named(alloc, name)?;
     let first = sub(alloc, 0)?;
@@ -186,7 +185,7 @@ pub(crate) fn to_two(alloc: Global, first: Goal, second: Goal, just: Just) -> Re
 
 /// A step by a rule without premises.
 pub(crate) fn by_itself(alloc: Global, rule: Rule) -> Result<Step, Fault>
-    ensures { AnswersStep (leaves [] (by_rule (rule_of rule) no_parts)) (step_in result) }
+    ensures { AnswersStep (leaves [] (by_rule rule no_parts)) (step_in result) }
 {
     let just = by_none(alloc, rule)?;
     closed(alloc, just)

@@ -4,7 +4,7 @@ ghost use Rattle.std.specs.Option.{option_map};
 ghost use Rattle.hol_model.specs.Terms.Name.{is_identifier};
 ghost use Rattle.hol_model.specs.Terms.NamedTerm.{variable, type_of};
 ghost use Rattle.hol_model.specs.Derived.DerivedRules as spec;
-ghost use Rattle.hol_model.specs.Derived.InferenceRules.{rule_choose, rule_exists, rule_gen};
+ghost use Rattle.hol_model.specs.declared.rule.Rule.TheVariants as rules;
 ghost use Rattle.hol_model.specs.Goals.Justifications as trees;
 ghost use Rattle.hol_model.specs.Goals.Justifications.{by_rule};
 ghost use Rattle.hol_model.specs.Goals.Replays.{Store};
@@ -28,7 +28,7 @@ use std::alloc::Global;
 
 // What EXISTS draws from the first subgoal.
 fn by_exists(alloc: Global, formula: &Term, witness: &Term) -> Result<Just, Fault>
-    ensures { Makes result (by_rule (rule_exists formula.now witness.now) (one_part from_first)) }
+    ensures { Makes result (by_rule (rules.Exists formula.now witness.now) (one_part from_first)) }
 {
     let formula = formula.copy(alloc)?;
     let witness = witness.copy(alloc)?;
@@ -78,7 +78,7 @@ pub(crate) fn exists_tac(alloc: Global, witness: &Term, goal: &Goal) -> Result<S
 // What GEN draws from the first subgoal.
 fn by_gen(alloc: Global, name: &str, ty: &Ty) -> Result<Just, Fault>
     requires { is_identifier name.now ≡ true }
-    ensures { Makes result (by_rule (rule_gen (variable name.now ty.now)) (one_part from_first)) }
+    ensures { Makes result (by_rule (rules.Gen (variable name.now ty.now)) (one_part from_first)) }
 {
     let variable = variable_of(alloc, name, ty)?;
     from_one(alloc, Rule::Gen(variable), subgoal(alloc, 0))
@@ -117,7 +117,7 @@ pub(crate) fn gen_tac(alloc: Global, theory: &Theory, goal: &Goal) -> Result<Ste
 // What CHOOSE draws from the theorem of this name and the first subgoal.
 fn by_choose(alloc: Global, theorem: &str, name: &str, ty: &Ty) -> Result<Just, Fault>
     requires { is_identifier name.now ≡ true }
-    ensures { Makes result (by_rule (rule_choose (variable name.now ty.now)) (two_parts (trees.named theorem.now) from_first)) }
+    ensures { Makes result (by_rule (rules.Choose (variable name.now ty.now)) (two_parts (trees.named theorem.now) from_first)) }
 {
     let variable = variable_of(alloc, name, ty)?;
     from_two(

@@ -7,8 +7,7 @@ ghost use Rattle.hol_model.specs.Logic.NamedLogic.{false_term};
 ghost use Rattle.hol_model.specs.Goals.Justifications.{by_rule, no_parts};
 ghost use Rattle.hol_model.specs.Refining.Refiners as refiners;
 ghost use Rattle.hol_model.specs.Refining.Refiners.{leaves, from_first, one_part};
-ghost use Rattle.hol_model.specs.Derived.InferenceRules.{rule_disch, rule_assume, rule_refl};
-ghost use Rattle.hol_just.specs.Rules.{rule_of};
+ghost use Rattle.hol_model.specs.declared.rule.Rule.TheVariants as rules;
 ghost use Rattle.hol_just.specs.Steps.{goal_of};
 ghost use Rattle.hol_refine_table.specs.Answers.{step_in, AnswersStep, AnswersRow, Makes};
 ghost use Rattle.hol_refine_table.specs.Rows as stated;
@@ -40,7 +39,7 @@ pub(crate) fn no_tac() -> Result<Step, Fault>
 
 // The assumption `p`.
 fn assumed(alloc: Global, p: &Term) -> Result<Step, Fault>
-    ensures { AnswersStep (leaves [] (by_rule (rule_assume p.now) no_parts)) (step_in result) }
+    ensures { AnswersStep (leaves [] (by_rule (rules.Assume p.now) no_parts)) (step_in result) }
 {
     let p = p.copy(alloc)?;
     by_itself(alloc, Rule::Assume(p))
@@ -58,7 +57,7 @@ pub(crate) fn assumption_tac(alloc: Global, goal: &Goal) -> Result<Step, Fault>
 
 // `a = a`.
 fn reflexive(alloc: Global, a: &Term) -> Result<Step, Fault>
-    ensures { AnswersStep (leaves [] (by_rule (rule_refl a.now) no_parts)) (step_in result) }
+    ensures { AnswersStep (leaves [] (by_rule (rules.Refl a.now) no_parts)) (step_in result) }
 {
     let a = a.copy(alloc)?;
     by_itself(alloc, Rule::Refl(a))
@@ -99,7 +98,7 @@ pub(crate) fn conj_tac(alloc: Global, goal: &Goal) -> Result<Step, Fault>
 
 // One side alone, by the rule that adds the other.
 fn to_side(alloc: Global, goal: &Goal, side: &Term, rule: Rule) -> Result<Step, Fault>
-    ensures { AnswersStep (leaves (refiners.toward (goal_of goal.now) (named side.now) ∷ []) (by_rule (rule_of rule) (one_part from_first))) (step_in result) }
+    ensures { AnswersStep (leaves (refiners.toward (goal_of goal.now) (named side.now) ∷ []) (by_rule rule (one_part from_first))) (step_in result) }
 {
     let just = from_one(alloc, rule, subgoal(alloc, 0))?;
     to_target(alloc, goal, side, just)
@@ -133,7 +132,7 @@ pub(crate) fn disj2_tac(alloc: Global, goal: &Goal) -> Result<Step, Fault>
 
 // What DISCH draws from the first subgoal.
 fn by_disch(alloc: Global, p: &Term) -> Result<Just, Fault>
-    ensures { Makes result (by_rule (rule_disch p.now) (one_part from_first)) }
+    ensures { Makes result (by_rule (rules.Disch p.now) (one_part from_first)) }
 {
     from_one(alloc, Rule::Disch(p.copy(alloc)?), subgoal(alloc, 0))
 }

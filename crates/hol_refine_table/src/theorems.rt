@@ -2,7 +2,7 @@
 ghost use Rattle.std.specs.Prelude.{◌≡◌, [], ◌∷◌};
 ghost use Rattle.std.specs.Option.{option_map};
 ghost use Rattle.hol_model.specs.Derived.DerivedRules.{named};
-ghost use Rattle.hol_model.specs.Derived.InferenceRules.{rule_prove_hyp};
+ghost use Rattle.hol_model.specs.declared.rule.Rule.TheVariants as rules;
 ghost use Rattle.hol_model.specs.Goals.Justifications as trees;
 ghost use Rattle.hol_model.specs.Goals.Justifications.{by_rule};
 ghost use Rattle.hol_model.specs.Refining.Refiners as refiners;
@@ -51,7 +51,7 @@ pub(crate) fn accept_tac(alloc: Global, cited: Cited<'_>, goal: &Goal) -> Result
 
 // The goal with the conclusion of the theorem of this name assumed.
 fn assumed(alloc: Global, name: &str, conclusion: &Term, goal: &Goal) -> Result<Step, Fault>
-    ensures { AnswersStep (leaves (refiners.assuming (goal_of goal.now) (named conclusion.now) ∷ []) (by_rule rule_prove_hyp (two_parts (trees.named name.now) from_first))) (step_in result) }
+    ensures { AnswersStep (leaves (refiners.assuming (goal_of goal.now) (named conclusion.now) ∷ []) (by_rule rules.ProveHyp (two_parts (trees.named name.now) from_first))) (step_in result) }
 {
     let just = from_two(
         alloc,

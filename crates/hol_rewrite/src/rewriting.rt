@@ -8,7 +8,7 @@ ghost use Rattle.hol_model.specs.Derived.DerivedRules.{terms_of_theorem};
 ghost use Rattle.hol_model.specs.Rewrites.Rewriting.{Rewrites, Applies, IsRewritten, has_fitting_instance};
 ghost use Rattle.hol_journal.specs.Journal.{IsMade, theorem_in};
 ghost use Rattle.hol_prelude_derivations.specs.Derivations.{AreMade, theorems};
-ghost use Rattle.hol_equal.specs.Sequents.{Continues};
+ghost use Rattle.hol_journal.specs.Growth.{Continues};
 ghost use Rattle.hol_rewrite.specs.RuleSides.{AreEquations, sides_of_rules};
 ghost use Rattle.hol_rewrite.specs.Instances.{replacements_of, image_fits};
 

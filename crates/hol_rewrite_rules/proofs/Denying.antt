@@ -18,7 +18,8 @@ use Rattle.hol_model.proofs.Terms.Membership.{of_append, IsMember-append_right}
 use Rattle.hol_journal.specs.Journal.{Journal, Recorded}
 use Rattle.hol_journal.proofs.GrowthLemmas.{journals-grow}
 use Rattle.hol_journal.proofs.Showing.{refused-is, unless-is, ok_is}
-use Rattle.hol_equal.specs.Sequents.{Shows, DerivesIf, Continues}
+use Rattle.hol_journal.specs.Growth.{Continues}
+use Rattle.hol_equal.specs.Sequents.{Shows, DerivesIf}
 use Rattle.hol_equal.specs.Formulas.{IsFormula}
 use Rattle.hol_prelude.specs.HasLogic.{HasLogic}
 use Rattle.hol_prelude.specs.declared.stored.Bool.{Bool as Stored}

@@ -14,13 +14,14 @@ ghost use Rattle.hol_model.specs.Logic.NamedLogic.{Abstracted, is_constant_named
 ghost use Rattle.hol_journal.specs.Journal.{IsMade};
 ghost use Rattle.hol_prelude.specs.HasLogic.{HasLogic};
 ghost use Rattle.hol_equal.specs.Formulas.{IsFormula};
-ghost use Rattle.hol_equal.specs.Sequents.{Shows, Derives, DerivesIf, Continues, IsPast};
+ghost use Rattle.hol_journal.specs.Growth.{Continues};
+ghost use Rattle.hol_equal.specs.Sequents.{Shows, Derives, DerivesIf, IsPast};
 ghost use Rattle.hol_rewrite_rules.specs.Rules.{IsFreshInstance, are_small};
 
 use crate::renaming::with_variable_renamed;
 use hol_alpha::aconv;
 use hol_equal::{conclusion_of, eq_mp_known};
-use hol_journal::{Rec, Recorder};
+use hol_journal::{Inference, Rec, Recorder};
 use hol_model::Fault;
 use hol_prelude::Bool;
 use hol_quant::spec;
@@ -95,7 +96,7 @@ fn refl_known(recorder: &mut Recorder, term: &Term) -> Result<Rec, Fault>
     ensures names { IfOk result (λ made. made.theorem.conclusion ≡ equation term.now term.now) }
     ensures derives { (ty : HolType) → IsKnown recorder.old.theory (image term.now) ty → Derives result [] (nameless_equation ty (image term.now) (image term.now)) }
 {
-    recorder.refl_known(term)
+    recorder.infer_known(Inference::Refl(term))
 }
 
 // The theorem with this conclusion, of the same image as its own, by REFL and EQ_MP, also where nothing is bound. The theory

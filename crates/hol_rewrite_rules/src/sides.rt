@@ -4,7 +4,8 @@ ghost use Rattle.hol_model.specs.Terms.NamedTerm.{NamedTerm, equation};
 ghost use Rattle.hol_model.specs.Logic.NamedLogic.{true_term, dest_conjunction};
 ghost use Rattle.hol_journal.specs.Journal.{IsMade};
 ghost use Rattle.hol_prelude.specs.HasLogic.{HasLogic};
-ghost use Rattle.hol_equal.specs.Sequents.{Continues, IsPast};
+ghost use Rattle.hol_journal.specs.Growth.{Continues};
+ghost use Rattle.hol_equal.specs.Sequents.{IsPast};
 ghost use Rattle.hol_rewrite_rules.specs.Rules.{Concludes, are_small};
 
 use hol_bool::{conjunct1, conjunct2, eqt_intro};

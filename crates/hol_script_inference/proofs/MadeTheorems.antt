@@ -4,8 +4,7 @@ use Rattle.hol_model.specs.declared.fault.Fault.{Fault}
 use Rattle.hol_model.specs.Logic.Theory.{Theory, IsLegal}
 use Rattle.hol_model.specs.Goals.Replays.{IsStoreOver}
 use Rattle.hol_journal.specs.Journal.{Journal, Recorded}
-use Rattle.hol_journal.specs.Growth.{IsGrown}
-use Rattle.hol_equal.specs.Sequents.{Continues}
+use Rattle.hol_journal.specs.Growth.{IsGrown, Continues}
 use Rattle.hol_syntax.specs.declared.scope.Scope.{Scope as ScopeHere}
 use Rattle.hol_syntax.specs.Scope.{scope_of}
 use Rattle.hol_laws_sessions.specs.ReadTerms.{IsScopeOver}

@@ -3,8 +3,7 @@ use Rattle.std.specs.Prelude.{◌≡◌, Result, Ok, Err, IfOk}
 use Rattle.hol_model.specs.declared.fault.Fault.{Fault}
 use Rattle.hol_model.specs.Kernel.Theorem.{Theorem}
 use Rattle.hol_journal.specs.Journal.{Journal, Recorded, IsMade}
-use Rattle.hol_journal.specs.Growth.{IsGrown}
-use Rattle.hol_equal.specs.Sequents.{Continues}
+use Rattle.hol_journal.specs.Growth.{IsGrown, Continues}
 use Rattle.hol_script_session.specs.declared.reply.Refused.{Refused}
 use Rattle.hol_script_session.specs.declared.session.Session.{Session}
 

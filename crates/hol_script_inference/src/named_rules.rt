@@ -6,7 +6,6 @@ ghost use Rattle.hol_model_rules.specs.RuleForms.{form_of};
 ghost use Rattle.hol_model_sessions.specs.Commands as commands;
 ghost use Rattle.hol_model_sessions.specs.Sessions.{each, scope_in};
 ghost use Rattle.hol_journal.specs.Journal.{Journal, theorem_in};
-ghost use Rattle.hol_just.specs.Rules.{rule_of};
 ghost use Rattle.hol_just_replay.specs.Outcomes.{AreLent};
 ghost use Rattle.hol_theorem_store.specs.Store.{stored_of};
 ghost use Rattle.hol_theorem_store.specs.Stored.{IsStoreOf};
@@ -16,7 +15,7 @@ ghost use Rattle.hol_script_inference.specs.Answers.{AnswersRule, AnswersItems, 
 ghost use Rattle.hol_script_inference.specs.Recording.{GrowsJournal};
 
 use hol_journal::Rec;
-use hol_just::Rule;
+use hol_just::rule_of_name;
 use hol_just_replay::apply_rule;
 use hol_model::Fault;
 use hol_model_rules::RuleName;
@@ -42,7 +41,7 @@ pub(crate) fn by_name(
 {
     let terms = terms(session, alloc, quoted)?;
     let premises = premises(&session.library.store, alloc, names)?;
-    let Some(rule) = Rule::of_name(rule, terms) else {
+    let Some(rule) = rule_of_name(rule, terms) else {
         return Err(Fault::Syntax);
     };
     apply_rule(

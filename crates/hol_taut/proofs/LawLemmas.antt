@@ -14,7 +14,8 @@ use Rattle.hol_journal.specs.Journal.{Journal, Recorded}
 use Rattle.hol_prelude.specs.Prelude.{shown}
 use Rattle.hol_equal.specs.Formulas.{IsFormula}
 use Rattle.hol_equal.specs.Room.{FitsIf}
-use Rattle.hol_equal.specs.Sequents.{Shows, Continues, instance_of}
+use Rattle.hol_journal.specs.Growth.{Continues}
+use Rattle.hol_equal.specs.Sequents.{Shows, instance_of}
 use Rattle.hol_bool.specs.PreludeInstances.{at_p_q}
 use Rattle.hol_bool.proofs.RoomLemmas.{fits-within}
 use Rattle.hol_bool.proofs.PreludeSteps.{equation-fits, p_q-passes}

@@ -2,11 +2,10 @@
 use Rattle.std.proofs.Common.{◌≡◌, List, [], ◌∷◌, ◌++◌, Result, Ok, Err, refl, sym, ◌∙◌, subst}
 use Rattle.hol_model.specs.declared.fault.Fault.{Fault}
 use Rattle.hol_journal.specs.Journal.{Journal, Recorded}
-use Rattle.hol_journal.specs.Growth.{IsGrown}
+use Rattle.hol_journal.specs.Growth.{IsGrown, Continues}
 use Rattle.hol_journal.proofs.GrowthLemmas.{journals-grow}
 use Rattle.hol_prelude_derivations.specs.Derivations.{AreMade}
 use Rattle.hol_prelude_derivations.proofs.DerivationLemmas.{one_more_made}
-use Rattle.hol_equal.specs.Sequents.{Continues}
 use Rattle.hol_taut.proofs.TautAnswers.{continues-unchanged}
 
 -- the journal has grown over the same theory, and the recorder made these theorems

@@ -5,7 +5,6 @@ use Rattle.hol_model.specs.declared.fault.Fault.{Fault}
 use Rattle.hol_model.specs.Terms.NamedTerm.{NamedTerm, equation}
 use Rattle.hol_model.specs.Logic.NamedLogic.{negation, false_term}
 use Rattle.hol_model.specs.Terms.Nameless.{Nameless, image}
-use Rattle.hol_model.specs.Logic.Logic.{true_name, false_name, not_name, unary}
 use Rattle.hol_model.specs.Logic.Logic as nameless
 use Rattle.hol_model.specs.Kernel.Theorem.{Theorem}
 use Rattle.hol_model.specs.Logic.Theory.{Theory}
@@ -14,7 +13,7 @@ use Rattle.hol_journal.proofs.GrowthLemmas.{journals-grow}
 use Rattle.hol_bool.specs.PreludeInstances.{at_p_q}
 use Rattle.hol_equal.specs.Formulas.{IsFormula}
 use Rattle.hol_equal.specs.Room.{FitsIf}
-use Rattle.hol_equal.specs.Sequents.{Continues, IsHeld}
+use Rattle.hol_journal.specs.Growth.{Continues, IsHeld}
 use Rattle.hol_prelude.specs.Prelude.{p}
 use Rattle.hol_taut.proofs.LawLemmas.{leads-p_q}
 use Rattle.hol_taut.specs.LawSteps.{LeadsTo}

@@ -18,7 +18,8 @@ use Rattle.hol_journal.specs.Journal.{Journal, Recorded, theorem_in}
 use Rattle.hol_prelude_derivations.proofs.DerivationLemmas.{unchanged}
 use Rattle.hol_bool.proofs.RoomLemmas.{fits-within}
 use Rattle.hol_equal.specs.Formulas.{IsFormula, IsPassed, IsRefused}
-use Rattle.hol_equal.specs.Sequents.{Shows, Continues, IsPast, DerivesIf}
+use Rattle.hol_journal.specs.Growth.{Continues}
+use Rattle.hol_equal.specs.Sequents.{Shows, IsPast, DerivesIf}
 use Rattle.hol_taut_laws.specs.HasLaws.{HasLaws}
 use Rattle.hol_taut_laws.specs.declared.stored.Laws.{Laws}
 use Rattle.hol_model.specs.Rewrites.SmallTerms.{is_small}

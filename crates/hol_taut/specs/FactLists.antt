@@ -5,7 +5,7 @@ use Rattle.hol_model.specs.Terms.NamedTerm.{NamedTerm}
 use Rattle.hol_model.specs.Terms.Nameless.{Nameless, image}
 use Rattle.hol_journal.specs.Journal.{Journal}
 use Rattle.hol_model.specs.Kernel.Theorem.{Theorem}
-use Rattle.hol_equal.specs.Sequents.{IsHeld}
+use Rattle.hol_journal.specs.Growth.{IsHeld}
 use Rattle.hol_model.specs.Propositional.Propositions.{Connective}
 use Rattle.hol_model.specs.Propositional.Propositions.{And, Or, Implies, Iff}
 use Rattle.hol_taut.specs.declared.facts.Facts.{Facts, Nothing, Fact'}

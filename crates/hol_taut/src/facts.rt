@@ -3,7 +3,7 @@ ghost use Rattle.std.specs.Prelude.{◌≡◌, List, IfSome};
 ghost use Rattle.std.specs.Option.{option_map};
 ghost use Rattle.hol_model.specs.Terms.Nameless.{Nameless, image};
 ghost use Rattle.hol_journal.specs.Journal.{Journal};
-ghost use Rattle.hol_equal.specs.Sequents.{IsHeld};
+ghost use Rattle.hol_journal.specs.Growth.{IsHeld};
 ghost use Rattle.hol_model.specs.Propositional.Connectives.{fact};
 ghost use Rattle.hol_taut.specs.Proved.{Proves};
 ghost use Rattle.hol_taut.specs.FactLists.{value_of, AreHeld, AreProved};

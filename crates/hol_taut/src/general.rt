@@ -1,5 +1,5 @@
 // Formulas by splits over the chains of `<=>` that stand in them.
-ghost use Rattle.hol_equal.specs.Sequents.{Continues};
+ghost use Rattle.hol_journal.specs.Growth.{Continues};
 ghost use Rattle.hol_taut_laws.specs.HasLaws.{HasLaws};
 
 use crate::splits::by_splits;

@@ -2,9 +2,8 @@
 ghost use Rattle.std.specs.Prelude.{◌≡◌, ◌∷◌, ◌++◌, [], IfOk, IfErr, OnOk};
 ghost use Rattle.hol_model.specs.declared.fault.Fault.TheVariants.{Memory};
 ghost use Rattle.hol_journal.specs.Journal.{IsMade};
-ghost use Rattle.hol_journal.specs.Growth.{IsGrown};
+ghost use Rattle.hol_journal.specs.Growth.{IsGrown, Continues};
 ghost use Rattle.hol_prelude_derivations.specs.Derivations.{AreMade};
-ghost use Rattle.hol_equal.specs.Sequents.{Continues};
 ghost use Rattle.hol_taut_laws.specs.HasLaws.{HasLaws};
 
 use crate::leaves::constantly;

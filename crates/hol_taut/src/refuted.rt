@@ -4,7 +4,7 @@ ghost use Rattle.hol_model.specs.Terms.Nameless.{Nameless, image};
 ghost use Rattle.hol_model.specs.Logic.Logic as nameless;
 ghost use Rattle.hol_equal.specs.Formulas.{IsFormula};
 ghost use Rattle.hol_equal.specs.Room.{Room};
-ghost use Rattle.hol_equal.specs.Sequents.{Continues, IsHeld};
+ghost use Rattle.hol_journal.specs.Growth.{Continues, IsHeld};
 ghost use Rattle.hol_taut_laws.specs.HasLaws.{HasLaws};
 ghost use Rattle.hol_model.specs.Propositional.Connectives.{fact};
 ghost use Rattle.hol_taut.specs.FactLists.{value_of, known_by, AreHeld, AreProved};

@@ -1,5 +1,5 @@
 // A search for the theorem of a tautology, which is judged when it is made.
-ghost use Rattle.hol_equal.specs.Sequents.{Continues};
+ghost use Rattle.hol_journal.specs.Growth.{Continues};
 ghost use Rattle.hol_taut_laws.specs.HasLaws.{HasLaws};
 
 use crate::chain_proofs::shortened;

@@ -1,7 +1,7 @@
 // A formula or its falsity, from the facts of its atoms.
 ghost use Rattle.std.specs.Prelude.{◌≡◌, Some};
 ghost use Rattle.hol_equal.specs.Formulas.{IsFormula};
-ghost use Rattle.hol_equal.specs.Sequents.{Continues};
+ghost use Rattle.hol_journal.specs.Growth.{Continues};
 ghost use Rattle.hol_taut_laws.specs.HasLaws.{HasLaws};
 ghost use Rattle.hol_model.specs.Propositional.Propositions.{proposition};
 ghost use Rattle.hol_taut.specs.FactLists.{value_of, known_by, AreHeld};

@@ -2,7 +2,7 @@
 ghost use Rattle.std.specs.Prelude.{[]};
 ghost use Rattle.hol_model.specs.Terms.Nameless.{image};
 ghost use Rattle.hol_equal.specs.Room.{Room};
-ghost use Rattle.hol_equal.specs.Sequents.{Continues};
+ghost use Rattle.hol_journal.specs.Growth.{Continues};
 ghost use Rattle.hol_taut_laws.specs.HasLaws.{HasLaws};
 ghost use Rattle.hol_taut.specs.Denials.{IsDenied};
 ghost use Rattle.hol_taut.specs.Proved.{ProvesIf};

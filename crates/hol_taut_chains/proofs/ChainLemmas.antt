@@ -5,7 +5,7 @@ use Rattle.std.specs.Prelude.{Result}
 use Rattle.std.specs.Result.{IsErr}
 use Rattle.hol_model.proofs.Logic.Earlier.{earlier-same}
 use Rattle.hol_journal.specs.Journal.{Journal, Recorded}
-use Rattle.hol_equal.specs.Sequents.{Continues}
+use Rattle.hol_journal.specs.Growth.{Continues}
 use Rattle.hol_equal.proofs.StepLemmas.{continues-twice, still_made, now_made}
 use Rattle.hol_taut_chains.specs.Chains.{HasChainLaws}
 use Rattle.hol_taut_chains.specs.Negations.{HasNegationLaws}

@@ -1,11 +1,11 @@
 // Steps that the search for a short proof takes: what they prove is judged at the end.
 ghost use Rattle.std.specs.Prelude.{IfOk};
 ghost use Rattle.hol_journal.specs.Journal.{IsMade};
-ghost use Rattle.hol_equal.specs.Sequents.{Continues, IsHeld};
+ghost use Rattle.hol_journal.specs.Growth.{Continues, IsHeld};
 
 use crate::formula_terms::equal_to;
 use hol_equal::trans;
-use hol_journal::{Rec, Recorder};
+use hol_journal::{Inference, Rec, Recorder};
 use hol_model::Fault;
 use hol_terms::Term;
 
@@ -13,7 +13,7 @@ use hol_terms::Term;
 pub fn reflexive(recorder: &mut Recorder, term: &Term) -> Result<Rec, Fault>
     ensures continues { Continues recorder.old recorder.new result }
 {
-    recorder.refl(term)
+    recorder.infer(Inference::Refl(term))
 }
 
 /// MK_COMB.
@@ -22,7 +22,7 @@ pub(crate) fn applied(recorder: &mut Recorder, first: &Rec, second: &Rec) -> Res
     requires second { IsMade recorder.old second.now }
     ensures continues { Continues recorder.old recorder.new result }
 {
-    recorder.mk_comb(first, second)
+    recorder.infer(Inference::MkComb(first, second))
 }
 
 /// INST.
@@ -30,7 +30,7 @@ pub fn instance(recorder: &mut Recorder, terms: &[(Term, Term)], law: &Rec) -> R
     requires { IsMade recorder.old law.now }
     ensures continues { Continues recorder.old recorder.new result }
 {
-    recorder.inst(terms, law)
+    recorder.infer(Inference::Inst(terms, law))
 }
 
 /// AP_TERM.

@@ -1,7 +1,7 @@
 // Formulas whose chains of `<=>` have no negated parts.
 ghost use Rattle.std.specs.Prelude.{IfOk, IfSome};
 ghost use Rattle.hol_journal.specs.Journal.{IsMade};
-ghost use Rattle.hol_equal.specs.Sequents.{Continues, IsHeld};
+ghost use Rattle.hol_journal.specs.Growth.{Continues, IsHeld};
 ghost use Rattle.hol_taut_chains.specs.Negations.{HasNegationLaws};
 
 use crate::chain_steps::{followed, reflexive};

@@ -2,7 +2,7 @@
 ghost use Rattle.std.specs.Prelude.{◌<◌, IfOk, IfSome};
 ghost use Rattle.hol_model.specs.Terms.NamedTerm.{height};
 ghost use Rattle.hol_journal.specs.Journal.{IsMade};
-ghost use Rattle.hol_equal.specs.Sequents.{Continues, IsHeld};
+ghost use Rattle.hol_journal.specs.Growth.{Continues, IsHeld};
 ghost use Rattle.hol_taut_chains.specs.Chains.{HasChainLaws};
 
 use crate::chain_steps::{applied, followed, reflexive, under};

@@ -1,6 +1,6 @@
 // A part of a chain of `<=>` at its front.
 ghost use Rattle.hol_journal.specs.Journal.{IsMade};
-ghost use Rattle.hol_equal.specs.Sequents.{Continues};
+ghost use Rattle.hol_journal.specs.Growth.{Continues};
 ghost use Rattle.hol_taut_chains.specs.Chains.{HasChainLaws};
 
 use crate::chain_steps::{beside, followed, instance, reflexive};

@@ -1,6 +1,6 @@
 // Chains of `<=>` with their parts in the order of a whole.
 ghost use Rattle.hol_journal.specs.Journal.{IsMade};
-ghost use Rattle.hol_equal.specs.Sequents.{Continues};
+ghost use Rattle.hol_journal.specs.Growth.{Continues};
 ghost use Rattle.hol_taut_chains.specs.Chains.{HasChainLaws};
 
 use crate::chain_steps::{beside, reflexive};

@@ -1,6 +1,6 @@
 // Which entries a recorder keeps, and whether a run keeps them.
 use hol_device_adapters::FromRead;
-use hol_journal::Recorder;
+use hol_journal::{Inference, Recorder};
 use hol_model::Fault;
 use hol_script::run;
 use hol_test_sample_devices::Kept;
@@ -21,7 +21,7 @@ fn recorder_of(alloc: Global, axioms: usize) -> Result<Recorder, Fault> {
 // So many axioms more.
 fn make(recorder: &mut Recorder, axioms: usize) -> Result<(), Fault> {
     for _ in 0..axioms {
-        recorder.eta()?;
+        recorder.infer(Inference::Eta)?;
     }
     Ok(())
 }

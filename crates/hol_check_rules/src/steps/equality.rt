@@ -6,6 +6,7 @@ ghost use Rattle.hol_check_rules.specs.Steps as spec;
 ghost use Rattle.hol_check_rules.specs.Steps.{Takes};
 ghost use Rattle.hol_check_changes.specs.Forming.{IsFitting};
 
+use super::Taken;
 use super::conclude::conclude;
 use crate::hypotheses::{is_free_in_any, set_of, union};
 use crate::state::Theorem;
@@ -16,11 +17,11 @@ use hol_check_changes::forming::{
     equation_of, equation_of_abstractions, equation_of_applications, equation_of_redex, sides_fit,
 };
 use hol_check_terms::terms::Terms;
-use hol_model::{Cause, Fault};
+use hol_model::Cause;
 use std::alloc::Global;
 
 /// A term equals itself.
-pub fn refl(alloc: Global, terms: &mut Terms, term: usize) -> Result<Result<Theorem, Cause>, Fault>
+pub fn refl(alloc: Global, terms: &mut Terms, term: usize) -> Taken
     requires { IsFitting terms.old.terms term }
     ensures taken { Takes (spec.refl_step (term_at terms.old.terms term)) result terms.new.terms }
     ensures grows { IsGrown terms.old terms.new }
@@ -30,12 +31,7 @@ pub fn refl(alloc: Global, terms: &mut Terms, term: usize) -> Result<Result<Theo
 }
 
 /// From `a = b` and `b = c` follows `a = c`.
-pub fn trans(
-    alloc: Global,
-    terms: &mut Terms,
-    first: &Theorem,
-    second: &Theorem,
-) -> Result<Result<Theorem, Cause>, Fault>
+pub fn trans(alloc: Global, terms: &mut Terms, first: &Theorem, second: &Theorem) -> Taken
     requires first { IsFittingTheorem terms.old.terms first.now }
     requires second { IsFittingTheorem terms.old.terms second.now }
     ensures taken { Takes (spec.trans_step (sequent_in terms.old.terms first.now) (sequent_in terms.old.terms second.now)) result terms.new.terms }
@@ -66,12 +62,7 @@ pub(crate) fn are_equations(terms: &Terms, first: &Theorem, second: &Theorem) ->
 }
 
 /// From `f = g` and `x = y` follows `f x = g y`.
-pub fn mk_comb(
-    alloc: Global,
-    terms: &mut Terms,
-    first: &Theorem,
-    second: &Theorem,
-) -> Result<Result<Theorem, Cause>, Fault>
+pub fn mk_comb(alloc: Global, terms: &mut Terms, first: &Theorem, second: &Theorem) -> Taken
     requires first { IsFittingTheorem terms.old.terms first.now }
     requires second { IsFittingTheorem terms.old.terms second.now }
     ensures taken { Takes (spec.mk_comb_step (sequent_in terms.old.terms first.now) (sequent_in terms.old.terms second.now)) result terms.new.terms }
@@ -98,12 +89,7 @@ pub fn mk_comb(
 }
 
 /// From `a = b` follows that the abstractions of both over a variable are equal, where it is free in no hypothesis.
-pub fn abs(
-    alloc: Global,
-    terms: &mut Terms,
-    variable: usize,
-    premise: &Theorem,
-) -> Result<Result<Theorem, Cause>, Fault>
+pub fn abs(alloc: Global, terms: &mut Terms, variable: usize, premise: &Theorem) -> Taken
     requires variable { IsFitting terms.old.terms variable }
     requires premise { IsFittingTheorem terms.old.terms premise.now }
     ensures taken { Takes (spec.abs_step (term_at terms.old.terms variable) (sequent_in terms.old.terms premise.now)) result terms.new.terms }
@@ -129,7 +115,7 @@ pub fn abs(
 }
 
 /// An abstraction that is applied to a variable that is not free in it equals its body with that variable.
-pub fn beta(alloc: Global, terms: &mut Terms, term: usize) -> Result<Result<Theorem, Cause>, Fault>
+pub fn beta(alloc: Global, terms: &mut Terms, term: usize) -> Taken
     requires { IsFitting terms.old.terms term }
     ensures taken { Takes (spec.beta_step (term_at terms.old.terms term)) result terms.new.terms }
     ensures grows { IsGrown terms.old terms.new }

@@ -17,6 +17,7 @@ ghost use Rattle.hol_check_rules.specs.Steps as spec;
 ghost use Rattle.hol_check_rules.specs.Steps.{AreFormed, Takes, changed_step};
 ghost use Rattle.hol_check_changes.specs.Forming.{IsFormed, IsFitting};
 
+use super::Taken;
 use super::conclude::conclude;
 use crate::hypotheses::set_of;
 use crate::state::Theorem;
@@ -30,12 +31,7 @@ use hol_model::{Cause, Fault};
 use std::alloc::Global;
 
 /// A theorem with free variables replaced, all at once, by pairs (new, old), of which the first counts.
-pub fn inst(
-    alloc: Global,
-    terms: &mut Terms,
-    premise: &Theorem,
-    pairs: &[(usize, usize)],
-) -> Result<Result<Theorem, Cause>, Fault>
+pub fn inst(alloc: Global, terms: &mut Terms, premise: &Theorem, pairs: &[(usize, usize)]) -> Taken
     requires premise { IsFittingTheorem terms.old.terms premise.now }
     requires pairs { All (IsFittingPair terms.old.terms) pairs.now }
     ensures taken { Takes (spec.inst_step (sequent_in terms.old.terms premise.now) (term_pairs_in terms.old.terms pairs.now)) result terms.new.terms }
@@ -54,7 +50,7 @@ pub fn inst_type(
     terms: &mut Terms,
     premise: &Theorem,
     pairs: &[(usize, usize)],
-) -> Result<Result<Theorem, Cause>, Fault>
+) -> Taken
     requires premise { IsFittingTheorem terms.old.terms premise.now }
     requires pairs { All (IsTypePair terms.old.types) pairs.now }
     ensures taken { Takes (spec.inst_type_step (sequent_in terms.old.terms premise.now) (type_pairs_in terms.old.types pairs.now)) result terms.new.terms }
@@ -130,7 +126,7 @@ fn changed_theorem(
     terms: &mut Terms,
     change: &Change<'_>,
     premise: &Theorem,
-) -> Result<Result<Theorem, Cause>, Fault>
+) -> Taken
     requires meaning { HasMeaning terms.old change.now }
     requires premise { IsFittingTheorem terms.old.terms premise.now }
     ensures taken { (meaning : PartChange) → IsMeant terms.old change.now meaning → Takes (changed_step (changed meaning 0) (sequent_in terms.old.terms premise.now)) result terms.new.terms }

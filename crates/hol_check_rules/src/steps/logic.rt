@@ -6,21 +6,18 @@ ghost use Rattle.hol_check_rules.specs.Steps as spec;
 ghost use Rattle.hol_check_rules.specs.Steps.{Takes};
 ghost use Rattle.hol_check_changes.specs.Forming.{IsFitting};
 
+use super::Taken;
 use super::conclude::conclude;
 use crate::hypotheses::{set_of, union, without};
 use crate::state::Theorem;
 use hol_check_changes::equation::{is_equation, left_side, right_side};
 use hol_check_changes::forming::{equation_of, is_formula, within_limits};
 use hol_check_terms::terms::Terms;
-use hol_model::{Cause, Fault};
+use hol_model::Cause;
 use std::alloc::Global;
 
 /// A formula follows from itself.
-pub fn assume(
-    alloc: Global,
-    terms: &mut Terms,
-    term: usize,
-) -> Result<Result<Theorem, Cause>, Fault>
+pub fn assume(alloc: Global, terms: &mut Terms, term: usize) -> Taken
     requires { IsFitting terms.old.terms term }
     ensures taken { Takes (spec.assume_step (term_at terms.old.terms term)) result terms.new.terms }
     ensures grows { IsGrown terms.old terms.new }
@@ -34,12 +31,7 @@ pub fn assume(
 }
 
 /// From `p = q` and `p` follows `q`.
-pub fn eq_mp(
-    alloc: Global,
-    terms: &mut Terms,
-    first: &Theorem,
-    second: &Theorem,
-) -> Result<Result<Theorem, Cause>, Fault>
+pub fn eq_mp(alloc: Global, terms: &mut Terms, first: &Theorem, second: &Theorem) -> Taken
     requires first { IsFittingTheorem terms.old.terms first.now }
     requires second { IsFittingTheorem terms.old.terms second.now }
     ensures taken { Takes (spec.eq_mp_step (sequent_in terms.old.terms first.now) (sequent_in terms.old.terms second.now)) result terms.new.terms }
@@ -57,12 +49,7 @@ pub fn eq_mp(
 }
 
 /// From `p` and `q` follows `p = q`, each without the other among its hypotheses.
-pub fn deduct(
-    alloc: Global,
-    terms: &mut Terms,
-    first: &Theorem,
-    second: &Theorem,
-) -> Result<Result<Theorem, Cause>, Fault>
+pub fn deduct(alloc: Global, terms: &mut Terms, first: &Theorem, second: &Theorem) -> Taken
     requires first { IsFittingTheorem terms.old.terms first.now }
     requires second { IsFittingTheorem terms.old.terms second.now }
     ensures taken { Takes (spec.deduct_step (sequent_in terms.old.terms first.now) (sequent_in terms.old.terms second.now)) result terms.new.terms }

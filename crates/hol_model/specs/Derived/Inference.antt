@@ -17,10 +17,8 @@ use Rattle.hol_model.specs.Derived.DerivedRules.{is_among}
 use Rattle.hol_model.specs.Goals.Goals.{Sequent}
 use Rattle.hol_model.specs.Logic.NamelessLogic.{disjunction, negation, dest_equation, dest_equivalence, dest_conjunction, dest_disjunction, dest_implication, dest_negation, dest_forall}
 use Rattle.hol_model.specs.Logic.NamelessLogic.{dest_exists, dest_redex}
-use Rattle.hol_model.specs.Derived.InferenceRules.{InferenceRule, rule_refl, rule_trans, rule_mk_comb, rule_abs, rule_beta, rule_assume, rule_eq_mp, rule_deduct_antisym, rule_inst}
-use Rattle.hol_model.specs.Derived.InferenceRules.{rule_inst_type, rule_eta_axiom, rule_select_axiom, rule_sym, rule_add_assum, rule_prove_hyp, rule_eqt_intro, rule_eqt_elim, rule_beta_conv}
-use Rattle.hol_model.specs.Derived.InferenceRules.{rule_conj, rule_conjunct1, rule_conjunct2, rule_disch, rule_undisch, rule_mp, rule_spec, rule_gen, rule_disj1, rule_disj2, rule_disj_cases}
-use Rattle.hol_model.specs.Derived.InferenceRules.{rule_contr, rule_not_intro, rule_not_elim, rule_exists, rule_choose}
+use Rattle.hol_model.specs.Derived.InferenceRules.{InferenceRule}
+use Rattle.hol_model.specs.declared.rule.Rule.TheVariants as rules
 
 -- which hypotheses of a premise pass, and as what
 pub record Passing : Type 0 where
@@ -134,106 +132,106 @@ inst_type_term theta term = instantiate (type_instance_of theta) term
 
 abbrev pub infer : Theory → InferenceRule → List Nameless → Option Inference
 -- |- t = t
-infer theory (rule_refl t) [] =
+infer theory (rules.Refl t) [] =
     require (is_known_term theory (image t)) (conclude [] (nameless_equation (nameless_type [] (image t)) (image t) (image t)))
 -- a = b and b = c give a = c
-infer theory rule_trans (first ∷ second ∷ []) =
+infer theory rules.Trans (first ∷ second ∷ []) =
     given (dest_equation first) (λ left.
     given (dest_equation second) (λ right.
     require (same_term left.right right.left && type_eq left.ty right.ty)
     (conclude (all ∷ all ∷ []) (nameless_equation left.ty left.left right.right))))
 -- f = g and x = y give f x = g y
-infer theory rule_mk_comb (first ∷ second ∷ []) =
+infer theory rules.MkComb (first ∷ second ∷ []) =
     given (dest_equation first) (λ functions.
     given (dest_equation second) (λ arguments.
     given (dest_function_type functions.ty) (λ arrow.
     require (type_eq arrow.0 arguments.ty)
     (conclude (all ∷ all ∷ []) (nameless_equation arrow.1 (app functions.left arguments.left) (app functions.right arguments.right))))))
 -- s = t gives (\x. s) = (\x. t), x free in no hypothesis
-infer theory (rule_abs x) (premise ∷ []) =
+infer theory (rules.Abs x) (premise ∷ []) =
     given (dest_variable x) (λ binder.
     given (dest_equation premise) (λ sides.
     require (knows_type theory binder.1)
     (conclude (all_without_variable binder.0 binder.1 ∷ [])
     (nameless_equation (function_type binder.1 sides.ty) (lam binder.1 (close binder.0 binder.1 sides.left)) (lam binder.1 (close binder.0 binder.1 sides.right))))))
 -- |- (\x. t) x = t
-infer theory (rule_beta t) [] =
+infer theory (rules.Beta t) [] =
     given (dest_trivial_redex t) (λ body.
     require (is_known_term theory (image t))
     (conclude [] (nameless_equation (nameless_type [] (image t)) (image t) (image body))))
 -- p |- p
-infer theory (rule_assume p) [] = require (is_known_formula theory (image p)) (conclude_supposing [] (image p) (image p))
+infer theory (rules.Assume p) [] = require (is_known_formula theory (image p)) (conclude_supposing [] (image p) (image p))
 -- p <=> q and p give q
-infer theory rule_eq_mp (first ∷ second ∷ []) =
+infer theory rules.EqMp (first ∷ second ∷ []) =
     given (dest_equivalence first) (λ sides.
     require (same_term sides.0 second)
     (conclude (all ∷ all ∷ []) sides.1))
 -- p and q give p <=> q, each without the other among its hypotheses
-infer theory rule_deduct_antisym (p ∷ q ∷ []) = conclude (all_but q ∷ all_but p ∷ []) (nameless_equation bool_type p q)
-infer theory (rule_inst theta) (premise ∷ []) =
-    require (may_replace theory theta) (conclude (all_changed (inst_term theta) ∷ []) (inst_term theta premise))
-infer theory (rule_inst_type theta) (premise ∷ []) =
-    require (may_replace_types theory theta) (conclude (all_changed (inst_type_term theta) ∷ []) (inst_type_term theta premise))
-infer theory rule_eta_axiom [] = conclude [] eta_axiom
-infer theory rule_select_axiom [] = conclude_supposing [] select_hypothesis select_conclusion
+infer theory rules.DeductAntisym (p ∷ q ∷ []) = conclude (all_but q ∷ all_but p ∷ []) (nameless_equation bool_type p q)
+infer theory (rules.Inst theta) (premise ∷ []) =
+    require (may_replace theory theta.items) (conclude (all_changed (inst_term theta.items) ∷ []) (inst_term theta.items premise))
+infer theory (rules.InstType theta) (premise ∷ []) =
+    require (may_replace_types theory theta.items) (conclude (all_changed (inst_type_term theta.items) ∷ []) (inst_type_term theta.items premise))
+infer theory rules.EtaAxiom [] = conclude [] eta_axiom
+infer theory rules.SelectAxiom [] = conclude_supposing [] select_hypothesis select_conclusion
 -- a = b gives b = a
-infer theory rule_sym (premise ∷ []) =
+infer theory rules.Sym (premise ∷ []) =
     given (dest_equation premise) (λ sides. conclude (all ∷ []) (nameless_equation sides.ty sides.right sides.left))
-infer theory (rule_add_assum p) (q ∷ []) = require (is_known_formula theory (image p)) (conclude_supposing (all ∷ []) (image p) q)
+infer theory (rules.AddAssum p) (q ∷ []) = require (is_known_formula theory (image p)) (conclude_supposing (all ∷ []) (image p) q)
 -- p, and q from p, give q
-infer theory rule_prove_hyp (p ∷ q ∷ []) = conclude (all_where_wanted p ∷ all_but p ∷ []) q
+infer theory rules.ProveHyp (p ∷ q ∷ []) = conclude (all_where_wanted p ∷ all_but p ∷ []) q
 -- p gives p <=> T
-infer theory rule_eqt_intro (p ∷ []) = conclude (all ∷ []) (nameless_equation bool_type p true_term)
-infer theory rule_eqt_elim (premise ∷ []) =
+infer theory rules.EqtIntro (p ∷ []) = conclude (all ∷ []) (nameless_equation bool_type p true_term)
+infer theory rules.EqtElim (premise ∷ []) =
     given (dest_equivalence premise) (λ sides.
     require (same_term sides.1 true_term)
     (conclude (all ∷ []) sides.0))
 -- |- (\x. b) a = b[a/x]
-infer theory (rule_beta_conv t) [] =
+infer theory (rules.BetaConv t) [] =
     given (dest_redex (image t)) (λ redex.
     require (is_known_term theory (image t))
     (conclude [] (nameless_equation (nameless_type [] (image t)) (image t) (fill redex.argument redex.body))))
-infer theory rule_conj (p ∷ q ∷ []) = conclude (all ∷ all ∷ []) (conjunction p q)
-infer theory rule_conjunct1 (premise ∷ []) = given (dest_conjunction premise) (λ sides. conclude (all ∷ []) sides.0)
-infer theory rule_conjunct2 (premise ∷ []) = given (dest_conjunction premise) (λ sides. conclude (all ∷ []) sides.1)
+infer theory rules.Conj (p ∷ q ∷ []) = conclude (all ∷ all ∷ []) (conjunction p q)
+infer theory rules.Conjunct1 (premise ∷ []) = given (dest_conjunction premise) (λ sides. conclude (all ∷ []) sides.0)
+infer theory rules.Conjunct2 (premise ∷ []) = given (dest_conjunction premise) (λ sides. conclude (all ∷ []) sides.1)
 -- q gives p ==> q, without the hypothesis p
-infer theory (rule_disch p) (q ∷ []) = require (is_known_formula theory (image p)) (conclude (all_but (image p) ∷ []) (implication (image p) q))
-infer theory rule_undisch (premise ∷ []) = given (dest_implication premise) (λ sides. conclude_supposing (all ∷ []) sides.0 sides.1)
-infer theory rule_mp (first ∷ second ∷ []) =
+infer theory (rules.Disch p) (q ∷ []) = require (is_known_formula theory (image p)) (conclude (all_but (image p) ∷ []) (implication (image p) q))
+infer theory rules.Undisch (premise ∷ []) = given (dest_implication premise) (λ sides. conclude_supposing (all ∷ []) sides.0 sides.1)
+infer theory rules.Mp (first ∷ second ∷ []) =
     given (dest_implication first) (λ sides.
     require (same_term sides.0 second)
     (conclude (all ∷ all ∷ []) sides.1))
 -- !x. p gives p[t/x]
-infer theory (rule_spec t) (premise ∷ []) =
+infer theory (rules.Spec t) (premise ∷ []) =
     given (dest_forall premise) (λ quantified.
     require (knows_nameless theory (image t) quantified.0)
     (conclude (all ∷ []) (fill (image t) quantified.1)))
 -- p gives !x. p, x free in no hypothesis
-infer theory (rule_gen x) (p ∷ []) =
+infer theory (rules.Gen x) (p ∷ []) =
     given (dest_variable x) (λ binder.
     require (knows_type theory binder.1)
     (conclude (all_without_variable binder.0 binder.1 ∷ []) (forall_term binder.1 (close binder.0 binder.1 p))))
-infer theory (rule_disj1 q) (p ∷ []) = require (is_known_formula theory (image q)) (conclude (all ∷ []) (disjunction p (image q)))
-infer theory (rule_disj2 p) (q ∷ []) = require (is_known_formula theory (image p)) (conclude (all ∷ []) (disjunction (image p) q))
+infer theory (rules.Disj1 q) (p ∷ []) = require (is_known_formula theory (image q)) (conclude (all ∷ []) (disjunction p (image q)))
+infer theory (rules.Disj2 p) (q ∷ []) = require (is_known_formula theory (image p)) (conclude (all ∷ []) (disjunction (image p) q))
 -- p \/ q, r from p, and r from q give r
-infer theory rule_disj_cases (premise ∷ first ∷ second ∷ []) =
+infer theory rules.DisjCases (premise ∷ first ∷ second ∷ []) =
     given (dest_disjunction premise) (λ sides.
     require (same_term first second)
     (conclude (all ∷ all_but sides.0 ∷ all_but sides.1 ∷ []) first))
-infer theory (rule_contr p) (premise ∷ []) =
+infer theory (rules.Contr p) (premise ∷ []) =
     require (same_term premise false_term && is_known_formula theory (image p)) (conclude (all ∷ []) (image p))
-infer theory rule_not_intro (premise ∷ []) =
+infer theory rules.NotIntro (premise ∷ []) =
     given (dest_implication premise) (λ sides.
     require (same_term sides.1 false_term)
     (conclude (all ∷ []) (negation sides.0)))
-infer theory rule_not_elim (premise ∷ []) = given (dest_negation premise) (λ p. conclude (all ∷ []) (implication p false_term))
+infer theory rules.NotElim (premise ∷ []) = given (dest_negation premise) (λ p. conclude (all ∷ []) (implication p false_term))
 -- p[w/x] gives ?x. p
-infer theory (rule_exists e w) (premise ∷ []) =
+infer theory (rules.Exists e w) (premise ∷ []) =
     given (dest_exists (image e)) (λ quantified.
     require (is_known_formula theory (image e) && knows_nameless theory (image w) quantified.0 && same_term (fill (image w) quantified.1) premise)
     (conclude (all ∷ []) (image e)))
 -- ?x. p, and q from p[v/x], give q, v free neither in these nor in other hypotheses of q
-infer theory (rule_choose v) (premise ∷ q ∷ []) =
+infer theory (rules.Choose v) (premise ∷ q ∷ []) =
     given (dest_variable v) (λ binder.
     given (dest_exists premise) (λ quantified.
     require (type_eq binder.1 quantified.0 && not (occurs_free binder.0 binder.1 premise || occurs_free binder.0 binder.1 q))

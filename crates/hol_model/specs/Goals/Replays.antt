@@ -14,8 +14,8 @@ use Rattle.hol_model.specs.Logic.Logic.{false_term}
 use Rattle.hol_model.specs.Kernel.Theorem.{Theorem, IsTheorem}
 use Rattle.hol_model.specs.Derived.DerivedRules.{is_roomy}
 use Rattle.hol_model.specs.Goals.Goals.{Sequent, Goal}
-use Rattle.hol_model.specs.Derived.InferenceRules.{InferenceRule, rule_refl, rule_abs, rule_beta, rule_assume, rule_inst, rule_add_assum, rule_beta_conv, rule_disch, rule_spec, rule_gen}
-use Rattle.hol_model.specs.Derived.InferenceRules.{rule_disj1, rule_disj2, rule_contr, rule_exists, rule_choose}
+use Rattle.hol_model.specs.Derived.InferenceRules.{InferenceRule}
+use Rattle.hol_model.specs.declared.rule.Rule.TheVariants as rules
 use Rattle.hol_model.specs.Goals.Justifications.{Justification, sub, named, lemma, by_rule, Parts, no_parts, part, NamedSequents, sequent_over, Subgoals, sequent_of}
 use Rattle.hol_model.specs.Goals.ValidSteps.{Step, supposed, false_twice}
 
@@ -80,21 +80,21 @@ images_of_pairs (pair ∷ pairs) = image pair.0 ∷ image pair.1 ∷ images_of_p
 
 -- the terms that a rule takes
 abbrev pub terms_of_rule : InferenceRule → List Nameless
-terms_of_rule (rule_refl t) = image t ∷ []
-terms_of_rule (rule_abs x) = image x ∷ []
-terms_of_rule (rule_beta t) = image t ∷ []
-terms_of_rule (rule_assume p) = image p ∷ []
-terms_of_rule (rule_inst theta) = images_of_pairs theta
-terms_of_rule (rule_add_assum p) = image p ∷ []
-terms_of_rule (rule_beta_conv t) = image t ∷ []
-terms_of_rule (rule_disch p) = image p ∷ []
-terms_of_rule (rule_spec t) = image t ∷ []
-terms_of_rule (rule_gen x) = image x ∷ []
-terms_of_rule (rule_disj1 q) = image q ∷ []
-terms_of_rule (rule_disj2 p) = image p ∷ []
-terms_of_rule (rule_contr p) = image p ∷ []
-terms_of_rule (rule_exists e w) = image e ∷ image w ∷ []
-terms_of_rule (rule_choose v) = image v ∷ []
+terms_of_rule (rules.Refl t) = image t ∷ []
+terms_of_rule (rules.Abs x) = image x ∷ []
+terms_of_rule (rules.Beta t) = image t ∷ []
+terms_of_rule (rules.Assume p) = image p ∷ []
+terms_of_rule (rules.Inst theta) = images_of_pairs theta.items
+terms_of_rule (rules.AddAssum p) = image p ∷ []
+terms_of_rule (rules.BetaConv t) = image t ∷ []
+terms_of_rule (rules.Disch p) = image p ∷ []
+terms_of_rule (rules.Spec t) = image t ∷ []
+terms_of_rule (rules.Gen x) = image x ∷ []
+terms_of_rule (rules.Disj1 q) = image q ∷ []
+terms_of_rule (rules.Disj2 p) = image p ∷ []
+terms_of_rule (rules.Contr p) = image p ∷ []
+terms_of_rule (rules.Exists e w) = image e ∷ image w ∷ []
+terms_of_rule (rules.Choose v) = image v ∷ []
 terms_of_rule rule = []
 
 abbrev pub terms_of_sequent : Option Sequent → List Nameless

@@ -19,8 +19,7 @@ use Rattle.hol_model.specs.Kernel.Rules.{dest_equation, is_formula}
 use Rattle.hol_model.specs.Derived.DerivedRules.{Stated, States, Conclusion, named, up_to_names, IsConclusion, body_with, is_of_type}
 use Rattle.hol_model.specs.Logic.Derivable.{nameless_equation}
 use Rattle.hol_model.specs.Goals.Goals.{Goal}
-use Rattle.hol_model.specs.Derived.InferenceRules.{rule_refl, rule_assume, rule_eq_mp, rule_deduct_antisym, rule_sym, rule_prove_hyp, rule_eqt_elim, rule_conj, rule_disch, rule_undisch, rule_mp}
-use Rattle.hol_model.specs.Derived.InferenceRules.{rule_gen, rule_disj1, rule_disj2, rule_disj_cases, rule_not_intro, rule_exists, rule_choose}
+use Rattle.hol_model.specs.declared.rule.Rule.TheVariants as rules
 use Rattle.hol_model.specs.Goals.Justifications as tree
 use Rattle.hol_model.specs.Goals.Justifications.{Justification, by_rule, Parts, no_parts, part}
 use Rattle.hol_model.specs.Goals.ValidSteps.{Step}
@@ -166,9 +165,9 @@ where_assumed theorem goal next = unless (are_assumed theorem.hypotheses goal) R
 -- `p ==> q` becomes q with p assumed, and `~p` becomes `F` with p assumed
 abbrev pub discharged : Goal → Option (NamedTerm × NamedTerm) → Option NamedTerm → Result StatedStep Fault
 discharged goal (Some sides) negated =
-    leaves (from_assumptions goal.assumptions (named sides.0 ∷ []) (named sides.1) ∷ []) (by_rule (rule_disch sides.0) (one_part from_first))
+    leaves (from_assumptions goal.assumptions (named sides.0 ∷ []) (named sides.1) ∷ []) (by_rule (rules.Disch sides.0) (one_part from_first))
 discharged goal None (Some p) =
-    leaves (from_assumptions goal.assumptions (named p ∷ []) (named false_term) ∷ []) (by_rule rule_not_intro (one_part (by_rule (rule_disch p) (one_part from_first))))
+    leaves (from_assumptions goal.assumptions (named p ∷ []) (named false_term) ∷ []) (by_rule rules.NotIntro (one_part (by_rule (rules.Disch p) (one_part from_first))))
 discharged goal None None = Err BadShape
 
 -- what a refiner leaves of the goal, where a new variable takes this name; those that prove a theorem on the way are not
@@ -184,60 +183,60 @@ table store (accept_tac name) goal fresh =
     (leaves [] (tree.named name))))
 -- the goal is an assumption
 table store assumption_tac goal fresh =
-    unless (is_assumed goal.target goal) RefineFails (leaves [] (by_rule (rule_assume goal.target) no_parts))
+    unless (is_assumed goal.target goal) RefineFails (leaves [] (by_rule (rules.Assume goal.target) no_parts))
 -- a theorem's conclusion is assumed
 table store (assume_tac name) goal fresh =
     by_theorem store name (λ theorem.
     where_assumed theorem goal
-    (leaves (assuming goal (named theorem.conclusion) ∷ []) (by_rule rule_prove_hyp (two_parts (tree.named name) from_first))))
+    (leaves (assuming goal (named theorem.conclusion) ∷ []) (by_rule rules.ProveHyp (two_parts (tree.named name) from_first))))
 -- a = a
 table store refl_tac goal fresh =
     given (dest_equation goal.target) BadShape (λ sides.
     unless (are_alpha_equivalent sides.0 sides.1) RefineFails
-    (leaves [] (by_rule (rule_refl sides.0) no_parts)))
+    (leaves [] (by_rule (rules.Refl sides.0) no_parts)))
 -- p /\ q becomes p, and q
 table store conj_tac goal fresh =
     given (dest_conjunction goal.target) BadShape (λ sides.
-    leaves (toward goal (named sides.0) ∷ toward goal (named sides.1) ∷ []) (by_rule rule_conj (two_parts from_first from_second)))
+    leaves (toward goal (named sides.0) ∷ toward goal (named sides.1) ∷ []) (by_rule rules.Conj (two_parts from_first from_second)))
 -- p <=> q becomes p ==> q, and q ==> p; the first has the goal's measures
 table store eq_tac goal fresh =
     given (dest_equation goal.target) BadShape (λ sides.
     unless (is_formula sides.0) BadShape
     (leaves_if_fitting (image (implication sides.1 sides.0))
     (toward goal (named (implication sides.0 sides.1)) ∷ toward goal (named (implication sides.1 sides.0)) ∷ [])
-    (by_rule rule_deduct_antisym (two_parts (by_rule rule_undisch (one_part from_second)) (by_rule rule_undisch (one_part from_first))))))
+    (by_rule rules.DeductAntisym (two_parts (by_rule rules.Undisch (one_part from_second)) (by_rule rules.Undisch (one_part from_first))))))
 -- p \/ q becomes p, or q
 table store disj1_tac goal fresh =
     given (dest_disjunction goal.target) BadShape (λ sides.
-    leaves (toward goal (named sides.0) ∷ []) (by_rule (rule_disj1 sides.1) (one_part from_first)))
+    leaves (toward goal (named sides.0) ∷ []) (by_rule (rules.Disj1 sides.1) (one_part from_first)))
 table store disj2_tac goal fresh =
     given (dest_disjunction goal.target) BadShape (λ sides.
-    leaves (toward goal (named sides.1) ∷ []) (by_rule (rule_disj2 sides.0) (one_part from_first)))
+    leaves (toward goal (named sides.1) ∷ []) (by_rule (rules.Disj2 sides.0) (one_part from_first)))
 table store disch_tac goal fresh = discharged goal (dest_implication goal.target) (dest_negation goal.target)
 -- !x. p becomes p with a new variable for x
 table store gen_tac goal fresh =
     given (dest_forall goal.target) BadShape (λ quantified.
     let made = body_with quantified (variable fresh quantified.ty) in
-    leaves_if_fitting made (toward goal (renamed_body quantified fresh) ∷ []) (by_rule (rule_gen (variable fresh quantified.ty)) (one_part from_first)))
+    leaves_if_fitting made (toward goal (renamed_body quantified fresh) ∷ []) (by_rule (rules.Gen (variable fresh quantified.ty)) (one_part from_first)))
 -- ?x. p becomes p with the witness for x
 table store (exists_tac witness) goal fresh =
     given (dest_exists goal.target) BadShape (λ quantified.
     unless (is_of_type quantified.ty witness) TypeMismatch
     (leaves_if_fitting (body_with quantified witness) (toward goal (up_to_names (body_with quantified witness)) ∷ [])
-    (by_rule (rule_exists goal.target witness) (one_part from_first))))
+    (by_rule (rules.Exists goal.target witness) (one_part from_first))))
 -- q becomes p ==> q, p a theorem's conclusion
 table store (mp_tac name) goal fresh =
     by_theorem store name (λ theorem.
     where_assumed theorem goal
     (leaves_if_fitting (image (implication theorem.conclusion goal.target)) (toward goal (named (implication theorem.conclusion goal.target)) ∷ [])
-    (by_rule rule_mp (two_parts from_first (tree.named name)))))
+    (by_rule rules.Mp (two_parts from_first (tree.named name)))))
 -- a theorem's conclusion is p \/ q: the goal with p assumed, and with q assumed
 table store (disj_cases_tac name) goal fresh =
     by_theorem store name (λ theorem.
     given (dest_disjunction theorem.conclusion) BadShape (λ sides.
     where_assumed theorem goal
     (leaves (assuming goal (named sides.0) ∷ assuming goal (named sides.1) ∷ [])
-    (by_rule rule_disj_cases (three_parts (tree.named name) from_first from_second)))))
+    (by_rule rules.DisjCases (three_parts (tree.named name) from_first from_second)))))
 -- a theorem's conclusion is ?x. p: the goal with p assumed of a new variable
 table store (choose_tac name) goal fresh =
     by_theorem store name (λ theorem.
@@ -245,13 +244,13 @@ table store (choose_tac name) goal fresh =
     where_assumed theorem goal
     (let made = body_with quantified (variable fresh quantified.ty) in
     leaves_if_fitting made (assuming goal (renamed_body quantified fresh) ∷ [])
-    (by_rule (rule_choose (variable fresh quantified.ty)) (two_parts (tree.named name) from_first)))))
+    (by_rule (rules.Choose (variable fresh quantified.ty)) (two_parts (tree.named name) from_first)))))
 -- q becomes p ==> q, p no longer assumed
 table store (undisch_tac p) goal fresh =
     unless (is_assumed p goal) RefineFails
     (leaves_if_fitting (image (implication p goal.target))
     (from_assumptions (without_hypothesis p goal.assumptions) [] (named (implication p goal.target)) ∷ [])
-    (by_rule rule_undisch (one_part from_first)))
+    (by_rule rules.Undisch (one_part from_first)))
 table store (conv_tac conversion) goal fresh = Err RefineFails
 table store (rewrite_tac names) goal fresh = Err RefineFails
 table store taut_tac goal fresh = Err RefineFails
@@ -274,10 +273,10 @@ AnswersTable theory store leaf goal (Err fault) = (fresh : List ℕ) × (table s
 -- by p = p' the goal p becomes p', or nothing where p' is `T`
 abbrev pub converted : ℕ → Goal → NamedTerm → StatedStep
 converted number goal right =
-    if is_true right then record { goals = []; justification = by_rule rule_eqt_elim (one_part (tree.lemma number)) }
+    if is_true right then record { goals = []; justification = by_rule rules.EqtElim (one_part (tree.lemma number)) }
     else record {
       goals = toward goal (named right) ∷ [];
-      justification = by_rule rule_eq_mp (two_parts (by_rule rule_sym (one_part (tree.lemma number))) from_first);
+      justification = by_rule rules.EqMp (two_parts (by_rule rules.Sym (one_part (tree.lemma number))) from_first);
     }
 
 -- the theorem says that the goal's target equals a term

@@ -1,16 +1,9 @@
-use Rattle.hol_model.specs.Kernel.Rules.{refl_outcome}
-use Rattle.hol_journal.specs.Steps.{by_refl}
-use Rattle.hol_equal.proofs.StepLemmas.{refl-names, continues, refl-stands, refl-derives}
+use Rattle.hol_equal.proofs.StepLemmas.{refl-names, refl-derives}
 use Rattle.hol_equal.proofs.steps.refl.Goals as goal
-
-pub returns-clause-continues : goal.returns-clause-continues
-returns-clause-continues c =
-    continues c.refl.result c.args.recorder.now c.refl.new.self (by_refl c.args.term.now) (refl_outcome c.args.recorder.now.theory c.args.term.now)
-    (refl-stands c.args.recorder.now.theory c.args.term.now) c.refl.ensures.outcome c.refl.ensures.recorded c.refl.ensures.kept
 
 pub returns-clause-derives : goal.returns-clause-derives
 returns-clause-derives c =
-    refl-derives c.refl.result c.args.recorder.now.theory c.args.term.now c.refl.ensures.outcome
+    refl-derives c.infer.result c.args.recorder.now.theory c.args.term.now c.infer.ensures.outcome
 
 pub returns-clause-names : goal.returns-clause-names
-returns-clause-names c = refl-names c.refl.result c.args.recorder.now.theory c.args.term.now c.refl.ensures.outcome
+returns-clause-names c = refl-names c.infer.result c.args.recorder.now.theory c.args.term.now c.infer.ensures.outcome

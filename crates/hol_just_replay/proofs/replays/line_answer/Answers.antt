@@ -2,7 +2,6 @@ use Rattle.std.proofs.Common.{Bor, rules}
 use Rattle.std.specs.Option.{option_map}
 use Rattle.hol_journal.specs.Journal.{Recorded}
 use Rattle.std.specs.String.{string_bytes}
-use Rattle.hol_just.specs.Rules.{rule_of}
 use Rattle.hol_theorem_store.specs.Store.{stored_of}
 use Rattle.hol_just_replay.specs.Lines.{expected_in}
 use Rattle.hol_just_replay.proofs.Replaying.{sub-met, stored-met, lemma-met, rule-line-met}
@@ -29,6 +28,6 @@ returns-in-Lemma-clause-met c trees met =
 
 pub returns-in-ByRule-clause-met : goal.returns-in-ByRule-clause-met
 returns-in-ByRule-clause-met c trees met =
-    rw c.in-ByRule.is (rule-line-met c.args.recorder.now.theory (stored_of c.args.store.now) c.args.subgoals.now (rule_of c.in-ByRule.rule.value) trees c.in-ByRule.places.items c.rule_answer.result
+    rw c.in-ByRule.is (rule-line-met c.args.recorder.now.theory (stored_of c.args.store.now) c.args.subgoals.now c.in-ByRule.rule.value trees c.in-ByRule.places.items c.rule_answer.result
     (rw (c.deref-in-ByRule.ensures, c.deref-in-ByRule-2.ensures.value) at
     (c.rule_answer.ensures.met (expected_in c.args.recorder.now.theory (stored_of c.args.store.now) c.args.subgoals.now) trees met)))

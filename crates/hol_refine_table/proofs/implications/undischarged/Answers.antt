@@ -4,7 +4,7 @@ use Rattle.hol_model.specs.Terms.Nameless.{image}
 use Rattle.hol_model.specs.Terms.Measures.{nameless_within_limits}
 use Rattle.hol_model.specs.Logic.NamedLogic.{implication}
 use Rattle.hol_model.specs.Derived.DerivedRules.{named}
-use Rattle.hol_model.specs.Derived.InferenceRules.{rule_undisch}
+use Rattle.hol_model.specs.declared.rule.Rule.TheVariants as rules
 use Rattle.hol_model.specs.Kernel.Theorem.{without_hypothesis}
 use Rattle.hol_model.specs.Goals.Justifications.{by_rule}
 use Rattle.hol_model.specs.Refining.Refiners.{from_assumptions, one_part, from_first}
@@ -15,7 +15,7 @@ use Rattle.hol_refine_table.proofs.implications.undischarged.Goals as goal
 
 pub returns : goal.returns
 returns c p_typed q_typed =
-    let tree = by_rule rule_undisch (one_part from_first) in
+    let tree = by_rule rules.Undisch (one_part from_first) in
     let whole = implication c.args.p.now c.args.goal.now.concl in
     let others = without_hypothesis c.args.p.now c.args.goal.now.asms.items in
     let left : c.in_ok-asms.asms.items ≡ others = c.in_ok-asms.ensures.ok ∙ ap (without_hypothesis c.args.p.now) c.deref.ensures.value in

@@ -2,7 +2,6 @@ use Rattle.std.proofs.Common.{Bor, true, false, List, ℕ, ◌≡◌, ◌⊎◌,
 use Rattle.hol_model.specs.declared.fault.Fault.TheVariants.{Memory}
 use Rattle.std.proofs.lemmas.Result.{err_from_is_err_and}
 use Rattle.hol_journal.specs.Journal.{Recorded, theorem_in}
-use Rattle.hol_just.specs.Rules.{rule_of}
 use Rattle.hol_just_replay.specs.Outcomes.{lent_theorems}
 use Rattle.hol_model_rules.specs.RuleOutcomes.{IsOutcome}
 use Rattle.hol_model_sessions.specs.Sessions.{each, theorem_named}
@@ -26,6 +25,6 @@ pub returns-clause-answers : goal.returns-clause-answers
 returns-clause-answers c = λ trees names lengths matched named.
     let state = state_of c.args.session.now in
     let theorems = lent_theorems c.in_ok-premises.premises.items in
-    named-answers state c.args.rule trees names c.in_ok-terms.terms.items theorems (rule_of c.in-Some.rule) (theorem_in c.apply_rule.result) (c.in_ok-terms.ensures trees matched)
+    named-answers state c.args.rule trees names c.in_ok-terms.terms.items theorems c.in-Some.rule (theorem_in c.apply_rule.result) (c.in_ok-terms.ensures trees matched)
     (ap (each (theorem_named state)) (sym named) ∙ c.in_ok-premises.ensures.found) c.in-Some.ensures.rule
-    (subst (λ (ps : List (Bor Recorded)). IsOutcome state.theory (rule_of c.in-Some.rule) (lent_theorems ps) (theorem_in c.apply_rule.result)) c.deref.ensures.value c.apply_rule.ensures.outcome.is)
+    (subst (λ (ps : List (Bor Recorded)). IsOutcome state.theory c.in-Some.rule (lent_theorems ps) (theorem_in c.apply_rule.result)) c.deref.ensures.value c.apply_rule.ensures.outcome.is)
