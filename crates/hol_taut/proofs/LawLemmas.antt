@@ -14,8 +14,10 @@ use Rattle.hol_journal.specs.Journal.{Journal, Recorded}
 use Rattle.hol_prelude.specs.Prelude.{shown}
 use Rattle.hol_equal.specs.Formulas.{IsFormula}
 use Rattle.hol_equal.specs.Room.{FitsIf}
+use Rattle.hol_equal.specs.Fits.{LemmaFits}
 use Rattle.hol_journal.specs.Growth.{Continues}
-use Rattle.hol_equal.specs.Sequents.{Shows, instance_of}
+use Rattle.hol_equal.specs.Sequents.{Shows, DerivesIf, instance_of}
+use Rattle.hol_equal.proofs.CutLemmas.{derives-where}
 use Rattle.hol_bool.specs.PreludeInstances.{at_p_q}
 use Rattle.hol_bool.proofs.RoomLemmas.{fits-within}
 use Rattle.hol_bool.proofs.PreludeSteps.{equation-fits, p_q-passes}
@@ -64,6 +66,32 @@ way-fits theory law terms room premise conclusion leads is =
     joined true true c d e first three four five = rw (three, four, five) refl
     joined true false c d e first three four five = cc
     joined false b c d e first three four five = cc
+
+-- a theorem of the premise fits the law's theorem
+pub leads-fits : (theory : Theory) (law : Law) (terms : List (NamedTerm × NamedTerm)) (room : Bool) (premise conclusion : Nameless)
+    → LeadsTo theory law terms room premise conclusion → (lemma theorem : Theorem) → lemma ≡ law_theorem law → image theorem.conclusion ≡ premise → LemmaFits [] terms lemma theorem
+leads-fits theory law terms room premise conclusion leads lemma theorem there is = record {
+  hypothesis = image leads.hypothesis;
+  conclusion = image leads.stated;
+  lemma_shows = leads-shows theory law terms room premise conclusion leads lemma there;
+  premise_is = is ∙ leads.premise_is;
+}
+
+-- and the two derive the conclusion
+pub leads-derives : (theory : Theory) (law : Law) (terms : List (NamedTerm × NamedTerm)) (room : Bool) (premise conclusion : Nameless)
+    → LeadsTo theory law terms room premise conclusion → (lemma theorem : Theorem) (result : Result Recorded Fault) (h : List Nameless) → lemma ≡ law_theorem law → Shows theorem h premise
+    → ((h : List Nameless) (p c : Nameless) → Shows lemma (p ∷ []) c → Shows theorem h (instance_of [] terms p)
+    → DerivesIf (list_all nameless_within_limits (instantiate_all [] c ∷ instantiate_all [] p ∷ instance_of [] terms c ∷ instance_of [] terms p
+    ∷ nameless_equation bool_type (instance_of [] terms p) (instance_of [] terms c) ∷ [])) result h (instance_of [] terms c))
+    → DerivesIf room result h conclusion
+leads-derives theory law terms room premise conclusion leads lemma theorem result h there shows step =
+    let at = instance_of [] terms in
+    let p = image leads.hypothesis in
+    let c = image leads.stated in
+    subst (λ (t : Nameless). DerivesIf room result h t) (sym leads.conclusion_is)
+    (derives-where (list_all nameless_within_limits (instantiate_all [] c ∷ instantiate_all [] p ∷ at c ∷ at p ∷ nameless_equation bool_type (at p) (at c) ∷ [])) room result h (at c)
+    (way-fits theory law terms room premise conclusion leads)
+    (step h p c (leads-shows theory law terms room premise conclusion leads lemma there) (subst (λ (t : Nameless). Shows theorem h t) leads.premise_is shows)))
 
 -- a law of two formulas
 pub leads-p_q : (theory : Theory) (law : Law) (hypothesis conclusion a b : NamedTerm) (terms : List (NamedTerm × NamedTerm)) → law_theorem law ≡ shown (hypothesis ∷ []) conclusion

@@ -4,13 +4,14 @@ use Rattle.hol_model.specs.declared.fault.Fault.{Fault}
 use Rattle.hol_model.specs.Terms.HolType.{HolType, bool_type, type_variable}
 use Rattle.hol_model.specs.Terms.NamedTerm.{NamedTerm}
 use Rattle.hol_model.specs.Terms.Nameless.{Nameless, image}
+use Rattle.hol_equal.specs.Formulas.{IsFormula}
 use Rattle.hol_model.specs.Terms.Measures.{nameless_within_limits}
 use Rattle.hol_model.specs.Logic.Theory.{Theory, IsLegal, IsKnown, generic_type}
 use Rattle.hol_model.specs.Kernel.Theorem.{Theorem}
 use Rattle.hol_model.specs.Logic.Derivable.{nameless_equation}
 use Rattle.hol_model.specs.Logic.Logic as nameless
 use Rattle.hol_model.specs.Logic.Logic.{false_name, logical_definitions}
-use Rattle.hol_model.specs.Logic.NamedLogic.{true_term}
+use Rattle.hol_model.specs.Logic.NamedLogic.{true_term, false_term}
 use Rattle.hol_journal.specs.Journal.{Journal, Recorded}
 use Rattle.hol_model.proofs.Logic.Later.{head_is_new, rest_is_legal, generic_type-later}
 use Rattle.hol_equal.proofs.CutLemmas.{derives-where}
@@ -58,3 +59,7 @@ false-known journal laws has legal = record {
   typed = refl;
   parts = (tt, record { generic = bool_type; is_generic = logical-type journal laws has legal false_name bool_type refl; is_instance = record { instance = type_variable; is_instance = refl } });
 }
+
+pub false-formula : (journal : Journal) (laws : Laws) → HasLaws journal laws → IsLegal journal.theory → (term : NamedTerm) → term ≡ false_term → IsFormula journal.theory term
+false-formula journal laws has legal term is =
+    subst (λ (t : NamedTerm). IsFormula journal.theory t) (sym is) (record { typed = refl; known = false-known journal laws has legal })

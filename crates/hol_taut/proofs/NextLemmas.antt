@@ -105,13 +105,13 @@ open-lower facts more atom value atoms is next = go atoms next.listed
         omega arith
 
 -- what a call needs of one fact more, beside what else it needs
-pub told-further : {Laws Formula Always Denied Atoms Held : Type 0} (facts more : Facts) (atom : NamedTerm) (value : Bool) (atoms : List NamedTerm) (formula : Proposition) (t : ℕ)
+pub told-further : {Laws Formula Always Denied Atoms Held Given : Type 0} (facts more : Facts) (atom : NamedTerm) (value : Bool) (atoms : List NamedTerm) (formula : Proposition) (t : ℕ)
     → ((t : NamedTerm) → value_of more t ≡ (if are_alpha_equivalent atom t then Some value else value_of facts t)) → IsOpen facts atoms atom → open_atoms facts atoms ≡ t → AreTold facts atoms formula
-    → Laws → Formula → Always → Denied → Atoms → Held
-    → (open_atoms more atoms < t) × (Laws × (Formula × (Always × (Denied × (Atoms × (AreTold more atoms formula × Held))))))
-told-further facts more atom value atoms formula t is next now told laws formed always denied formulas held = (
+    → Laws → Formula → Always → Denied → Atoms → Held → Given
+    → (open_atoms more atoms < t) × (Laws × (Formula × (Always × (Denied × (Atoms × (AreTold more atoms formula × (Held × Given)))))))
+told-further facts more atom value atoms formula t is next now told laws formed always denied formulas held given = (
   subst (λ (n : ℕ). open_atoms more atoms < n) now (open-lower facts more atom value atoms is next),
-  (laws, (formed, (always, (denied, (formulas, (told-still facts more atom value atoms formula is told, held)))))),
+  (laws, (formed, (always, (denied, (formulas, (told-still facts more atom value atoms formula is told, (held, given))))))),
 )
 
 -- ---- none left

@@ -24,8 +24,9 @@ use Rattle.hol_taut.specs.FactLists.{value_of, known_by, AreProved}
 use Rattle.hol_model.specs.Propositional.Propositions.{Proposition}
 use Rattle.hol_model.specs.Kernel.Theorem.{are_alpha_equivalent}
 use Rattle.hol_taut.specs.Proved.{Proves}
-use Rattle.hol_taut.specs.Refuted.{IsByImage, IsAlwaysTrue, is_listed, AreTold}
+use Rattle.hol_taut.specs.Refuted.{IsByImage, IsAlwaysTrue, is_listed, AreTold, AreAllSmall}
 use Rattle.hol_taut.proofs.ProvedLemmas.{gives-proves}
+use Rattle.hol_taut.proofs.WayLemmas.{small-nowhere}
 use Rattle.hol_taut.proofs.KnownValues.{Agrees, known-right, known-full}
 
 -- ---- theorems
@@ -41,6 +42,10 @@ assumed-proves theorem a allowed shows = gives-proves true (Ok theorem) (a ∷ [
 
 pub memory-past : (fault : Fault) (h : List Nameless) (c : Nameless) (room : Bool) → Gives (Err fault) h c → IsPast fault room
 memory-past fault h c room memory = inl memory
+
+-- where there is no room, nothing has to be small
+pub all-small-nowhere : (atoms : List NamedTerm) → AreAllSmall false atoms
+all-small-nowhere atoms = record { each = λ atom m. small-nowhere (image atom) }
 
 -- one hypothesis more may be allowed
 

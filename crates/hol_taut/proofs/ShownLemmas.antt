@@ -27,7 +27,7 @@ use Rattle.hol_model.specs.Propositional.Connectives.{connected_term, equation_o
 use Rattle.hol_taut.specs.FactLists.{AreHeld}
 use Rattle.hol_taut.specs.Proved.{Proves, ProvesIf}
 use Rattle.hol_taut.specs.Ways.{connected_image, IsSmallIf, IsWay}
-use Rattle.hol_taut.specs.Shown.{first_side, first_value, law_of, LeadsBy, takes_second, second_side, second_value, IsChain, IsOfBoth, Joins}
+use Rattle.hol_taut.specs.Shown.{first_side, first_value, law_of, LeadsBy, LeadsOn, takes_second, second_side, second_value, IsChain, IsOfBoth, Joins, IsJoined}
 use Rattle.hol_taut.proofs.WayLemmas.{small-left, small-right, fact-fits}
 use Rattle.hol_taut_laws.specs.declared.law.Law.{Law}
 
@@ -41,6 +41,18 @@ chain-joined way law of room a b whole is joins = subst (λ (w : Way). Joins w r
 
 pub chain_back-joined : (way : Way) (law : Law) (room : Bool) (a b whole : Nameless) → way ≡ ChainFromRight law → Joins way room a b whole → IsChain room a b whole
 chain_back-joined way law room a b whole is joins = subst (λ (w : Way). Joins w room a b whole) is joins
+
+-- what says a law's hypothesis leads on
+pub leads-on : (theory : Theory) (law : Option Law) (left right : NamedTerm) (said from to : Nameless) → said ≡ from → LeadsBy theory law left right false from to
+    → LeadsOn theory law left right said
+leads-on theory law left right said from to is leads = record { to = to; leads = subst (λ (t : Nameless). LeadsBy theory law left right false t to) (sym is) leads }
+
+-- what says parts that make a whole makes one
+pub joined-on : (way : Way) (first second p q whole : Nameless) → first ≡ p → second ≡ q → Joins way false p q whole → IsJoined way first second
+joined-on way first second p q whole one two joins = record {
+  whole = whole;
+  joins = subst (λ (t : Nameless). Joins way false t second whole) (sym one) (subst (λ (t : Nameless). Joins way false p t whole) (sym two) joins);
+}
 
 -- TRANS of what is a chain
 pub chained : (result : Result Recorded Fault) (one two : Theorem) (allowed : List Nameless) (room : Bool) (a b whole : Nameless) → IsChain room a b whole → Proves one allowed a

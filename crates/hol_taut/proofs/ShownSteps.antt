@@ -72,6 +72,21 @@ pub first-side-small : (theory : Theory) (facts : Facts) (term left right : Name
 first-side-small theory facts term left right connective value way side room is_taken is small =
     subst (λ (s : NamedTerm). IsSmallIf room (image s)) (sym is) (first-small connective way room left right (whole-small term (connected_term connective left right) room is_taken.whole small))
 
+-- the law leads on from the fact of the first side
+pub first-leads : (theory later : Theory) (facts : Facts) (term left right : NamedTerm) (connective : Connective) (value : Bool) (way : Way) (side : NamedTerm) (v : Bool)
+    (law : Option Law) (room : Bool)
+    → IsTaken theory facts term left right connective value way → later ≡ theory → side ≡ first_side way left right → v ≡ first_value way → law ≡ law_of way → IsSmallIf room (image term)
+    → LeadsBy later law left right room (fact v (image side)) (after_first connective value way (image left) (image right))
+first-leads theory later facts term left right connective value way side v law room is_taken same is v_is law_is small =
+    let to = after_first connective value way (image left) (image right) in
+    subst (λ (y : Theory). LeadsBy y law left right room (fact v (image side)) to) (sym same)
+    (subst (λ (n : Option Law). LeadsBy theory n left right room (fact v (image side)) to) (sym law_is)
+    (subst (λ (b : Bool). LeadsBy theory (law_of way) left right room (fact b (image side)) to) (sym v_is)
+    (subst (λ (s : NamedTerm). LeadsBy theory (law_of way) left right room (fact (first_value way) (image s)) to) (sym is)
+    (law-leads theory connective value (known_by (value_of facts) (proposition left)) (known_by (value_of facts) (proposition right)) way is_taken.is_way left right
+    is_taken.sides.left_formula is_taken.sides.right_formula room
+    (whole-small term (connected_term connective left right) room is_taken.whole small)))))
+
 pub first-gives : (theory later : Theory) (facts : Facts) (term left right : NamedTerm) (connective : Connective) (value : Bool) (way : Way) (side : NamedTerm) (v : Bool)
     (law : Option Law) (room : Bool)
     → IsTaken theory facts term left right connective value way → later ≡ theory → side ≡ first_side way left right → v ≡ first_value way → law ≡ law_of way → IsSmallIf room (image term)
@@ -79,16 +94,8 @@ pub first-gives : (theory later : Theory) (facts : Facts) (term left right : Nam
     → ((from to : Nameless) → LeadsBy later law left right room from to → Proves premise allowed from → ProvesIf room result allowed to)
     → ProvesIf room result allowed (after_first connective value way (image left) (image right))
 first-gives theory later facts term left right connective value way side v law room is_taken same is v_is law_is small result premise allowed proves step =
-    let from = fact (first_value way) (image (first_side way left right)) in
-    let to = after_first connective value way (image left) (image right) in
-    step from to
-    (subst (λ (y : Theory). LeadsBy y law left right room from to) (sym same)
-    (subst (λ (n : Option Law). LeadsBy theory n left right room from to) (sym law_is)
-    (law-leads theory connective value (known_by (value_of facts) (proposition left)) (known_by (value_of facts) (proposition right)) way is_taken.is_way left right
-    is_taken.sides.left_formula is_taken.sides.right_formula room
-    (whole-small term (connected_term connective left right) room is_taken.whole small))))
-    (subst (λ (b : Bool). Proves premise allowed (fact b (image (first_side way left right)))) v_is
-    (subst (λ (s : NamedTerm). Proves premise allowed (fact v (image s))) is proves))
+    step (fact v (image side)) (after_first connective value way (image left) (image right))
+    (first-leads theory later facts term left right connective value way side v law room is_taken same is v_is law_is small) proves
 
 term-is : (term left right : NamedTerm) (connective : Connective) → term ≡ connected_term connective left right → image term ≡ connected_image connective (image left) (image right)
 term-is term left right connective whole = ap image whole ∙ image-connected connective left right
@@ -122,6 +129,18 @@ pub second-side-small : (theory : Theory) (facts : Facts) (term left right : Nam
 second-side-small theory facts term left right connective value way side room is_taken is small =
     subst (λ (s : NamedTerm). IsSmallIf room (image s)) (sym is) (second-small connective way room left right (whole-small term (connected_term connective left right) room is_taken.whole small))
 
+-- what the law gave and the fact of the second side make the fact of the whole
+pub second-joined : (theory : Theory) (facts : Facts) (term left right : NamedTerm) (connective : Connective) (value : Bool) (way : Way) (side : NamedTerm) (v : Bool) (room : Bool)
+    → IsTaken theory facts term left right connective value way → takes_second way ≡ true → side ≡ second_side way left right → v ≡ second_value way → IsSmallIf room (image term)
+    → Joins way room (after_first connective value way (image left) (image right)) (fact v (image side)) (fact value (connected_image connective (image left) (image right)))
+second-joined theory facts term left right connective value way side v room is_taken takes is v_is small =
+    let p = after_first connective value way (image left) (image right) in
+    let whole = fact value (connected_image connective (image left) (image right)) in
+    subst (λ (b : Bool). Joins way room p (fact b (image side)) whole) (sym v_is)
+    (subst (λ (s : NamedTerm). Joins way room p (fact (second_value way) (image s)) whole) (sym is)
+    (second-joins connective value (known_by (value_of facts) (proposition left)) (known_by (value_of facts) (proposition right)) way is_taken.is_way takes left right room
+    (subst (λ (s : Nameless). IsSmallIf room s) (term-is term left right connective is_taken.whole) small)))
+
 pub second-gives : (theory : Theory) (facts : Facts) (term left right : NamedTerm) (connective : Connective) (value : Bool) (way : Way) (side : NamedTerm) (v : Bool) (room : Bool)
     → IsTaken theory facts term left right connective value way → takes_second way ≡ true → side ≡ second_side way left right → v ≡ second_value way → IsSmallIf room (image term)
     → (result : Result Recorded Fault) (first second : Theorem) (allowed : List Nameless) → Proves first allowed (after_first connective value way (image left) (image right))
@@ -129,17 +148,9 @@ pub second-gives : (theory : Theory) (facts : Facts) (term left right : NamedTer
     → ((p q whole : Nameless) → Joins way room p q whole → Proves first allowed p → Proves second allowed q → ProvesIf room result allowed whole)
     → ProvesIf room result allowed (fact value (image term))
 second-gives theory facts term left right connective value way side v room is_taken takes is v_is small result first second allowed one two step =
-    let p = after_first connective value way (image left) (image right) in
-    let q = fact (second_value way) (image (second_side way left right)) in
-    let whole = connected_image connective (image left) (image right) in
-    let same = term-is term left right connective is_taken.whole in
-    subst (λ (s : Nameless). ProvesIf room result allowed s) (ap (fact value) (sym same))
-    (step p q (fact value whole)
-    (second-joins connective value (known_by (value_of facts) (proposition left)) (known_by (value_of facts) (proposition right)) way is_taken.is_way takes left right room
-    (subst (λ (s : Nameless). IsSmallIf room s) same small))
-    one
-    (subst (λ (b : Bool). Proves second allowed (fact b (image (second_side way left right)))) v_is
-    (subst (λ (s : NamedTerm). Proves second allowed (fact v (image s))) is two)))
+    subst (λ (s : Nameless). ProvesIf room result allowed s) (ap (fact value) (sym (term-is term left right connective is_taken.whole)))
+    (step (after_first connective value way (image left) (image right)) (fact v (image side)) (fact value (connected_image connective (image left) (image right)))
+    (second-joined theory facts term left right connective value way side v room is_taken takes is v_is small) one two)
 
 -- ---- a negation
 

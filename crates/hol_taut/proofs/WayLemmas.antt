@@ -23,6 +23,10 @@ use Rattle.hol_taut.specs.Ways.{connected_image, IsSmallIf, Leads, IsWay, the_wa
 
 -- ---- sizes
 
+-- where there is no room, nothing has to be small
+pub small-nowhere : (term : Nameless) → IsSmallIf false term
+small-nowhere term is = cc
+
 -- the sides of what is small are
 pub small-left : (room : Bool) (k l r : Nameless) → IsSmallIf room (app (app k l) r) → IsSmallIf room l
 small-left room k l r small is =

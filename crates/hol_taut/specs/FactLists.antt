@@ -57,6 +57,11 @@ abbrev pub AreProved : List Nameless → Facts → Type 0
 AreProved allowed Nothing = Unit {0}
 AreProved allowed (Fact' known value theorem p earlier) = Proves theorem.now.theorem allowed (fact value (image known.now)) × AreProved allowed earlier
 
+-- from some hypotheses, the theorems say what the facts are
+pub record AreConcluded (facts : Facts) : Type 0 where
+  pub allowed : List Nameless
+  pub proved : AreProved allowed facts
+
 -- the theorem is of the fact of an atom
 abbrev pub IsOfFact : List Nameless → Facts → NamedTerm → Theorem → Type 0
 IsOfFact allowed facts term theorem = (value : Bool) → value_of facts term ≡ Some value → Proves theorem allowed (fact value (image term))

@@ -1,17 +1,19 @@
 -- Formulas that are true whatever values their atoms have, and what a split over atoms keeps.
-use Rattle.std.specs.Prelude.{◌≡◌, ◌⊎◌, List, Bool, true}
+use Rattle.std.specs.Prelude.{◌≡◌, ◌⊎◌, List, Bool, true, false}
 use Rattle.std.specs.List.{list_any}
 use Rattle.std.specs.Option.{is_some}
 use Rattle.hol_model.specs.Logic.Derivable.{IsMember}
 use Rattle.hol_model.specs.Terms.NamedTerm.{NamedTerm}
-use Rattle.hol_model.specs.Terms.Nameless.{image}
+use Rattle.hol_model.specs.Terms.Nameless.{Nameless, image}
 use Rattle.hol_model.specs.Logic.Theory.{Theory}
 use Rattle.hol_equal.specs.Formulas.{IsFormula}
 use Rattle.hol_equal.specs.Room.{Room}
 use Rattle.hol_taut.specs.declared.facts.Facts.{Facts}
-use Rattle.hol_taut.specs.FactLists.{value_of}
+use Rattle.hol_taut.specs.FactLists.{value_of, AreProved}
+use Rattle.hol_taut.specs.Proved.{Proves}
 use Rattle.hol_model.specs.Propositional.Propositions.{Proposition, atom_places, is_true_by}
-use Rattle.hol_model.specs.Kernel.Theorem.{are_alpha_equivalent}
+use Rattle.hol_model.specs.Propositional.Connectives.{fact}
+use Rattle.hol_model.specs.Kernel.Theorem.{Theorem, are_alpha_equivalent}
 use Rattle.hol_taut.specs.Ways.{IsSmallIf}
 
 -- equal terms up to the names of bound variables have one value
@@ -37,3 +39,9 @@ pub record AreAllFormulas (theory : Theory) (atoms : List NamedTerm) : Type 0 wh
 -- the listed terms are small where there is room
 pub record AreAllSmall (room : Room) (atoms : List NamedTerm) : Type 0 where
   pub each : (atom : NamedTerm) → IsMember atom atoms → IsSmallIf room (image atom)
+
+-- from some hypotheses, a theorem says the denial of the formula, and the facts' theorems what these are
+pub record AreGiven (term : NamedTerm) (denied : Theorem) (facts : Facts) : Type 0 where
+  pub allowed : List Nameless
+  pub denial : Proves denied allowed (fact false (image term))
+  pub proved : AreProved allowed facts

@@ -55,6 +55,11 @@ abbrev pub LeadsBy : Theory → Option Law → NamedTerm → NamedTerm → Room 
 LeadsBy theory (Some law) p q room from to = LeadsTo theory law (at_p_q p q) room from to
 LeadsBy theory None p q room from to = from ≡ to
 
+-- at these formulas, the law leads on from the term; no room is asked for, so that nothing has to fit
+pub record LeadsOn (theory : Theory) (law : Option Law) (left right : NamedTerm) (from : Nameless) : Type 0 where
+  pub to : Nameless
+  pub leads : LeadsBy theory law left right false from to
+
 -- ---- the second side
 
 abbrev pub takes_second : Way → Bool
@@ -104,3 +109,8 @@ Joins (Equation law of other) room first second whole = first ≡ equation_of se
 Joins (Chain law of) room first second whole = IsChain room first second whole
 Joins (ChainFromRight law) room first second whole = IsChain room first second whole
 Joins Same room first second whole = IsOfBoth room first second whole
+
+-- they make a whole, of whatever size
+pub record IsJoined (way : Way) (first second : Nameless) : Type 0 where
+  pub whole : Nameless
+  pub joins : Joins way false first second whole

@@ -1,5 +1,5 @@
 -- What steps on theorems with allowed hypotheses answer.
-use Rattle.std.specs.Prelude.{List, ◌∷◌, Bool, false, not, Option, Result}
+use Rattle.std.specs.Prelude.{◌≡◌, List, ◌∷◌, Bool, false, not, Option, Result}
 use Rattle.hol_model.specs.declared.fault.Fault.{Fault}
 use Rattle.hol_model.specs.Terms.NamedTerm.{NamedTerm}
 use Rattle.hol_model.specs.Terms.Nameless.{Nameless, image}
@@ -10,7 +10,6 @@ use Rattle.hol_model.specs.Logic.NamedLogic.{negation}
 use Rattle.hol_model.specs.Propositional.Connectives.{equation_of, fact}
 use Rattle.hol_journal.specs.Journal.{Recorded}
 use Rattle.hol_equal.specs.Room.{Room, FitsIf}
-use Rattle.hol_equal.specs.Sequents.{Shows, DerivesIf}
 use Rattle.hol_bool.specs.PreludeInstances.{at_p_q}
 use Rattle.hol_taut_laws.specs.declared.law.Law.{Law}
 use Rattle.hol_taut.specs.declared.facts.Facts.{Facts}
@@ -22,20 +21,28 @@ use Rattle.hol_taut.specs.Refuted.{AreAllSmall}
 use Rattle.hol_taut.specs.Shown.{LeadsBy, Joins}
 use Rattle.hol_taut.specs.Ways.{IsSmallIf}
 
--- from a law's hypothesis at these terms, its conclusion there
-abbrev pub LawDerives : Theory → Law → List (NamedTerm × NamedTerm) → Theorem → Result Recorded Fault → Type 0
-LawDerives theory law terms premise result =
-    (h : List Nameless) (p c : Nameless) (room : Room) → LeadsTo theory law terms room p c → Shows premise h p → DerivesIf room result h c
-
--- the same at two formulas, with allowed hypotheses
+-- from a law's hypothesis at two formulas, its conclusion there
 abbrev pub LawProves : Theory → Law → NamedTerm → NamedTerm → Theorem → Result Recorded Fault → Type 0
 LawProves theory law p q premise result =
     (allowed : List Nameless) (from to : Nameless) (room : Room) → LeadsTo theory law (at_p_q p q) room from to → Proves premise allowed from → ProvesIf room result allowed to
+
+-- an equation, and its left side
+pub record AreOfEquation (first second : Nameless) : Type 0 where
+  pub right : Nameless
+  pub first_is : first ≡ equation_of second right
 
 -- EQ_MP
 abbrev pub EquationProves : Theorem → Theorem → Result Recorded Fault → Type 0
 EquationProves first second result =
     (allowed : List Nameless) (p q : Nameless) (room : Room) → Proves first allowed (equation_of p q) → Proves second allowed p → ProvesIf room result allowed q
+
+-- an equation, and one that begins where it ends
+pub record AreOfChain (first second : Nameless) : Type 0 where
+  pub left : Nameless
+  pub middle : Nameless
+  pub right : Nameless
+  pub first_is : first ≡ equation_of left middle
+  pub second_is : second ≡ equation_of middle right
 
 -- TRANS
 abbrev pub ChainProves : Theorem → Theorem → Result Recorded Fault → Type 0

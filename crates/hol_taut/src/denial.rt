@@ -12,7 +12,7 @@ ghost use Rattle.hol_taut.specs.Steps.{FalsityDenies};
 
 use crate::steps::{by_both, by_one};
 use hol_bool::falsity;
-use hol_equal::assume;
+use hol_equal::assume_known;
 use hol_journal::{Rec, Recorder};
 use hol_model::Fault;
 use hol_taut_laws::{Law, Laws};
@@ -28,7 +28,7 @@ fn from_falsity(recorder: &mut Recorder, laws: &Laws, p: &Term) -> Result<Rec, F
     let alloc = recorder.alloc();
     recorder.theory_is_legal();
     let falsity = falsity(alloc)?;
-    let assumed = assume(recorder, &falsity)?;
+    let assumed = assume_known(recorder, &falsity)?;
     by_one(recorder, laws, Law::Contr, p, p, &assumed)
 }
 

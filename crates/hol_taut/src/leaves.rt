@@ -13,7 +13,7 @@ ghost use Rattle.hol_taut.specs.Proved.{ProvesIf};
 use crate::facts::{Facts, fact_of};
 use crate::steps::by_both;
 use hol_bool::falsity;
-use hol_equal::{assume, conclusion_of, named};
+use hol_equal::{assume_known, conclusion_of, named};
 use hol_journal::{Rec, Recorder};
 use hol_model::Fault;
 use hol_taut_laws::{Law, Laws, law_theorem};
@@ -52,6 +52,6 @@ pub(crate) fn constantly(recorder: &mut Recorder, laws: &Laws, value: bool) -> R
     }
     recorder.theory_is_legal();
     let falsity = falsity(alloc)?;
-    let assumed = assume(recorder, &falsity)?;
+    let assumed = assume_known(recorder, &falsity)?;
     by_both(recorder, &assumed, &assumed)
 }

@@ -10,7 +10,7 @@ ghost use Rattle.hol_model.specs.Propositional.Connectives.{fact};
 ghost use Rattle.hol_taut.specs.FactLists.{value_of, known_by, AreHeld, AreProved};
 ghost use Rattle.hol_model.specs.Propositional.Propositions.{proposition};
 ghost use Rattle.hol_taut.specs.Proved.{Proves, ProvesIf};
-ghost use Rattle.hol_taut.specs.Refuted.{IsAlwaysTrue, AreTold, AreAllFormulas, AreAllSmall};
+ghost use Rattle.hol_taut.specs.Refuted.{IsAlwaysTrue, AreTold, AreAllFormulas, AreGiven};
 ghost use Rattle.hol_taut.specs.Ways.{IsSmallIf};
 ghost use Rattle.hol_taut.specs.Steps.{DenialRefutes};
 
@@ -20,7 +20,7 @@ use crate::known::known_value;
 use crate::next::next_atom;
 use crate::shown::shown;
 use crate::steps::by_equation;
-use hol_equal::assume;
+use hol_equal::assume_known;
 use hol_journal::{Rec, Recorder};
 use hol_model::Fault;
 use hol_taut_laws::Laws;
@@ -54,6 +54,7 @@ pub(crate) fn refuted(
     requires atoms { AreAllFormulas recorder.old.theory atoms.now }
     requires told { AreTold facts.now atoms.now (proposition term.now) }
     requires held { AreHeld recorder.old facts.now }
+    requires given { AreGiven term.now denied.now.theorem facts.now }
     ensures continues { Continues recorder.old recorder.new result }
     ensures proves { DenialRefutes term.now denied.now.theorem atoms.now facts.now result }
 {
@@ -64,7 +65,7 @@ pub(crate) fn refuted(
     let Some(atom) = next_atom(term, atoms, denied, &*facts) else {
         unreachable!();
     };
-    let assumed = assume(recorder, atom)?;
+    let assumed = assume_known(recorder, atom)?;
     let with_true = Facts::Fact(atom, true, &assumed, &*facts);
     let absurd = refuted(recorder, laws, term, denied, atoms, &with_true)?;
     let fact = denied_by(recorder, laws, atom, &absurd)?;

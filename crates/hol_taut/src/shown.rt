@@ -4,7 +4,7 @@ ghost use Rattle.hol_equal.specs.Formulas.{IsFormula};
 ghost use Rattle.hol_journal.specs.Growth.{Continues};
 ghost use Rattle.hol_taut_laws.specs.HasLaws.{HasLaws};
 ghost use Rattle.hol_model.specs.Propositional.Propositions.{proposition};
-ghost use Rattle.hol_taut.specs.FactLists.{value_of, known_by, AreHeld};
+ghost use Rattle.hol_taut.specs.FactLists.{value_of, known_by, AreHeld, AreConcluded};
 ghost use Rattle.hol_taut.specs.Shown.{ShowsFact};
 
 use crate::facts::Facts;
@@ -34,6 +34,7 @@ pub(crate) fn shown(
     requires formula { IsFormula recorder.old.theory term.now }
     requires known { known_by (value_of facts.now) (proposition term.now) ≡ Some value }
     requires held { AreHeld recorder.old facts.now }
+    requires concluded { AreConcluded facts.now }
     ensures continues { Continues recorder.old recorder.new result }
     ensures shows { ShowsFact facts.now term.now value result }
 {

@@ -14,7 +14,7 @@ use crate::facts::Facts;
 use crate::planned::by_planned_steps;
 use crate::refuted::refuted;
 use crate::steps::by_one;
-use hol_equal::assume;
+use hol_equal::assume_known;
 use hol_journal::{Rec, Recorder};
 use hol_model::Fault;
 use hol_taut_laws::{Law, Laws};
@@ -33,7 +33,7 @@ pub(crate) fn split(
     ensures continues { Continues recorder.old recorder.new result }
     ensures proves { (room : Room) → IsSmallIf room (image term.now) → ProvesIf room result [] (image term.now) }
 {
-    let assumed = assume(recorder, &denied.denial)?;
+    let assumed = assume_known(recorder, &denied.denial)?;
     let absurd = refuted(
         recorder,
         laws,

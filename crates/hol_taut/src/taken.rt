@@ -10,7 +10,7 @@ ghost use Rattle.hol_model.specs.Propositional.Connectives.{fact};
 ghost use Rattle.hol_taut.specs.Ways.{IsSmallIf};
 ghost use Rattle.hol_taut.specs.Proved.{Proves, ProvesIf};
 ghost use Rattle.hol_taut.specs.Shown as spec;
-ghost use Rattle.hol_taut.specs.Shown.{LeadsBy, Joins};
+ghost use Rattle.hol_taut.specs.Shown.{LeadsOn, IsJoined};
 ghost use Rattle.hol_taut.specs.Steps.{FirstProves, SecondProves, NegationProves};
 
 use crate::steps::{by_both, by_chain, by_equation, by_one};
@@ -93,7 +93,7 @@ pub(crate) fn second_value(way: Way) -> bool
     }
 }
 
-/// What the law of a way gives from the fact of its first side.
+/// What the law of a way gives from the fact of its first side, which the premise says.
 pub(crate) fn by_first(
     recorder: &mut Recorder,
     laws: &Laws,
@@ -104,6 +104,7 @@ pub(crate) fn by_first(
 ) -> Result<Rec, Fault>
     requires laws { HasLaws recorder.old laws.now }
     requires premise { IsHeld recorder.old premise }
+    requires leads { LeadsOn recorder.old.theory law left.now right.now (image premise.theorem.conclusion) }
     ensures continues { Continues recorder.old recorder.new result }
     ensures proves { FirstProves recorder.old.theory law left.now right.now premise.theorem result }
 {
@@ -113,7 +114,7 @@ pub(crate) fn by_first(
     }
 }
 
-/// What the fact of a way's second side makes of what its law gave.
+/// What the fact of a way's second side makes of what its law gave. The two fit, and are not compared.
 pub(crate) fn with_second(
     recorder: &mut Recorder,
     way: Way,
@@ -123,6 +124,7 @@ pub(crate) fn with_second(
     requires takes { spec.takes_second way ≡ true }
     requires first { IsHeld recorder.old first.now }
     requires second { IsHeld recorder.old second.now }
+    requires joins { IsJoined way (image first.now.theorem.conclusion) (image second.now.theorem.conclusion) }
     ensures continues { Continues recorder.old recorder.new result }
     ensures proves { SecondProves way first.now.theorem second.now.theorem result }
 {
@@ -135,7 +137,7 @@ pub(crate) fn with_second(
     }
 }
 
-/// The fact of a negation from that of its part.
+/// The fact of a negation from that of its part, which the premise says.
 pub(crate) fn denial(
     recorder: &mut Recorder,
     laws: &Laws,
@@ -146,6 +148,7 @@ pub(crate) fn denial(
     requires laws { HasLaws recorder.old laws.now }
     requires formula { IsFormula recorder.old.theory part.now }
     requires premise { IsHeld recorder.old premise.now }
+    requires said { image premise.now.theorem.conclusion ≡ fact (not value) (image part.now) }
     ensures continues { Continues recorder.old recorder.new result }
     ensures proves { NegationProves part.now value premise.now.theorem result }
 {

@@ -6,4 +6,4 @@ returns-clause-gives c =
     assume-gives c.infer_known.result c.args.recorder.now.theory c.args.term.now c.infer_known.ensures.outcome
 
 pub infer_known-requires : goal.infer_known-requires
-infer_known-requires c = formula-known c.args.recorder.now.theory c.args.term.now c.requires
+infer_known-requires c = record { made = tt; fits = formula-known c.args.recorder.now.theory c.args.term.now c.requires }

@@ -7,7 +7,7 @@ use Rattle.hol_model.specs.Logic.Theory.{IsKnown}
 use Rattle.hol_model.specs.Propositional.Connectives.{constant_fact}
 use Rattle.hol_equal.specs.Sequents.{Gives}
 use Rattle.hol_taut.specs.Proved.{ProvesIf}
-use Rattle.hol_taut.proofs.LeafLemmas.{truth-proved, false-known}
+use Rattle.hol_taut.proofs.LeafLemmas.{truth-proved, false-known, false-formula}
 use Rattle.hol_taut.proofs.RefutedLemmas.{assumed-proves, memory-past}
 use Rattle.hol_taut.proofs.WayLemmas.{falsity-equation-fits}
 use Rattle.hol_equal.proofs.StepLemmas.{passed_on}
@@ -35,3 +35,6 @@ returns-clause-proves c allowed room =
     (subst (λ (t : NamedTerm). IsKnown journal.theory (image t) bool_type → Gives (Ok c.in_ok-assumed.assumed) (image t ∷ []) (image t)) c.in_ok-falsity.ensures.ok c.in_ok-assumed.ensures.gives known) in
     subst (λ (v : Bool). ProvesIf room c.by_both.result allowed (constant_fact v)) (sym c.if-value.false)
     (c.by_both.ensures.proves allowed nameless.false_term nameless.false_term room (falsity-equation-fits room) one one)
+
+pub assume_known-requires : goal.assume_known-requires
+assume_known-requires c = false-formula c.args.recorder.now c.args.laws.now c.requires c.theory_is_legal.ensures c.in_ok-falsity.falsity c.in_ok-falsity.ensures.ok

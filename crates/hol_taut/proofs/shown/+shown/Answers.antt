@@ -1,11 +1,16 @@
-use Rattle.std.proofs.Common.{◌≡◌, ◌∙◌, Some, Ok, Err, sym, ap}
+use Rattle.std.proofs.Common.{◌≡◌, ◌∙◌, Some, false, not, Ok, Err, sym, ap}
+use Rattle.hol_model.specs.Terms.Nameless.{image}
+use Rattle.hol_model.specs.Propositional.Connectives.{fact}
 use Rattle.hol_bool.proofs.PreludeSteps.{still_formula}
 use Rattle.hol_equal.proofs.StepLemmas.{continues-twice}
 use Rattle.hol_taut.proofs.LawLemmas.{still_lawful}
 use Rattle.hol_taut.specs.FactLists.{value_of, known_by}
-use Rattle.hol_taut.proofs.ShownLemmas.{is-known, still_held, still_all_held}
-use Rattle.hol_taut.proofs.ShownSteps.{taken, lower-first, first-formula, first-side-known, first-side-small, first-gives, first-only, lower-second, second-formula}
-use Rattle.hol_taut.proofs.ShownSteps.{second-side-known, second-side-small, second-gives, lower-part, negated-formula, negated-known, negated-small, negated-gives, atom-shown, constant-shown}
+use Rattle.hol_taut.specs.Proved.{Proves}
+use Rattle.hol_taut.specs.Ways.{connected_image}
+use Rattle.hol_taut.proofs.WayLemmas.{small-nowhere}
+use Rattle.hol_taut.proofs.ShownLemmas.{is-known, after_first, leads-on, joined-on, still_held, still_all_held}
+use Rattle.hol_taut.proofs.ShownSteps.{taken, lower-first, first-formula, first-side-known, first-side-small, first-leads, first-gives, first-only, lower-second, second-formula}
+use Rattle.hol_taut.proofs.ShownSteps.{second-side-known, second-side-small, second-joined, second-gives, lower-part, negated-formula, negated-known, negated-small, negated-gives, atom-shown, constant-shown}
 use Rattle.hol_taut_formulas.specs.Forms.{meant}
 use Rattle.hol_equal.proofs.StepLemmas.{passed_on}
 use Rattle.hol_taut.proofs.shown.+shown.Goals as goal
@@ -29,7 +34,7 @@ shown-requires t c = (
     c.requires.laws,
     (
       negated-formula c.args.recorder.now.theory c.args.term.now c.in-Negated.part.now c.in-Negated.ensures.whole c.requires.formula,
-      (negated-known c.args.facts.now c.args.term.now c.in-Negated.part.now c.args.value c.in-Negated.ensures.meaning c.requires.known, c.requires.held),
+      (negated-known c.args.facts.now c.args.term.now c.in-Negated.part.now c.args.value c.in-Negated.ensures.meaning c.requires.known, (c.requires.held, c.requires.concluded)),
     ),
   ),
 )
@@ -58,6 +63,13 @@ pub denial-requires-clause-premise : goal.denial-requires-clause-premise
 denial-requires-clause-premise t c =
     c.in_ok-opposite-in-Negated.ensures.continues.held
 
+pub denial-requires-clause-said : goal.denial-requires-clause-said
+denial-requires-clause-said t c =
+    let given = c.requires.concluded in
+    let proves : Proves c.in_ok-opposite-in-Negated.opposite.theorem given.allowed (fact (not c.args.value) (image c.in-Negated.part.now)) =
+    c.in_ok-opposite-in-Negated.ensures.shows given.allowed false given.proved (small-nowhere (image c.in-Negated.part.now)) in
+    proves.concludes
+
 pub shown-requires-in-Connected : goal.shown-requires-in-Connected
 shown-requires-in-Connected t c =
     let is_taken = taken c.args.recorder.now.theory c.args.facts.now c.args.term.now c.in-Connected.left.now c.in-Connected.right.now (meant c.in-Connected.connective) c.args.value
@@ -72,7 +84,7 @@ shown-requires-in-Connected t c =
           (
             first-side-known c.args.recorder.now.theory c.args.facts.now c.args.term.now c.in-Connected.left.now c.in-Connected.right.now (meant c.in-Connected.connective) c.args.value
                 c.way_to-way.result c.first_side-side.result.now c.first_value.result is_taken c.first_side-side.ensures c.first_value.ensures,
-            c.requires.held,
+            (c.requires.held, c.requires.concluded),
           ),
         ),
       ),
@@ -100,6 +112,24 @@ by_first-requires-clause-laws t c =
 pub by_first-requires-clause-premise : goal.by_first-requires-clause-premise
 by_first-requires-clause-premise t c =
     c.in_ok-premise-in-Connected.ensures.continues.held
+
+pub by_first-requires-clause-leads : goal.by_first-requires-clause-leads
+by_first-requires-clause-leads t c =
+    let given = c.requires.concluded in
+    let left = c.in-Connected.left.now in
+    let right = c.in-Connected.right.now in
+    let connective = meant c.in-Connected.connective in
+    let side = c.first_side-side.result.now in
+    let v = c.first_value.result in
+    let is_taken = taken c.args.recorder.now.theory c.args.facts.now c.args.term.now left right connective c.args.value
+    c.way_to-way.result c.known_value-left_value.result c.known_value-right_value.result
+    c.requires.formula c.requires.known c.in-Connected.ensures.meaning c.in-Connected.ensures.whole c.known_value-left_value.ensures c.known_value-right_value.ensures c.way_to-way.ensures in
+    let proves : Proves c.in_ok-premise-in-Connected.premise.theorem given.allowed (fact v (image side)) =
+    c.in_ok-premise-in-Connected.ensures.shows given.allowed false given.proved (small-nowhere (image side)) in
+    leads-on c.shown-in-Connected.new.recorder.theory c.law_of.result left right (image c.in_ok-premise-in-Connected.premise.theorem.conclusion) (fact v (image side))
+    (after_first connective c.args.value c.way_to-way.result (image left) (image right)) proves.concludes
+    (first-leads c.args.recorder.now.theory c.shown-in-Connected.new.recorder.theory c.args.facts.now c.args.term.now left right connective c.args.value c.way_to-way.result side v
+    c.law_of.result false is_taken c.shown-in-Connected.ensures.continues.theory c.first_side-side.ensures c.first_value.ensures c.law_of.ensures (small-nowhere (image c.args.term.now)))
 
 pub returns-in_err-first-in-Connected-clause-continues : goal.returns-in_err-first-in-Connected-clause-continues
 returns-in_err-first-in-Connected-clause-continues t c =
@@ -161,9 +191,12 @@ shown-requires-in-Connected-2 t c =
             second-side-known c.args.recorder.now.theory c.args.facts.now c.args.term.now c.in-Connected.left.now c.in-Connected.right.now (meant c.in-Connected.connective)
                 c.args.value c.way_to-way.result c.second_side-other.result.now c.second_value.result is_taken (sym c.takes_second.ensures ∙ c.if-not-takes_second.false)
                 c.second_side-other.ensures c.second_value.ensures,
-            still_all_held c.args.recorder.now c.by_first.new.recorder c.by_first.result c.args.facts.now
-                (continues-twice c.args.recorder.now c.shown-in-Connected.new.recorder c.by_first.new.recorder c.shown-in-Connected.result c.by_first.result
-                c.shown-in-Connected.ensures.continues c.by_first.ensures.continues) c.requires.held,
+            (
+              still_all_held c.args.recorder.now c.by_first.new.recorder c.by_first.result c.args.facts.now
+                  (continues-twice c.args.recorder.now c.shown-in-Connected.new.recorder c.by_first.new.recorder c.shown-in-Connected.result c.by_first.result
+                  c.shown-in-Connected.ensures.continues c.by_first.ensures.continues) c.requires.held,
+              c.requires.concluded,
+            ),
           ),
         ),
       ),
@@ -198,6 +231,35 @@ with_second-requires-clause-first t c =
 pub with_second-requires-clause-second : goal.with_second-requires-clause-second
 with_second-requires-clause-second t c =
     c.in_ok-second-in-Connected.ensures.continues.held
+
+pub with_second-requires-clause-joins : goal.with_second-requires-clause-joins
+with_second-requires-clause-joins t c =
+    let given = c.requires.concluded in
+    let left = c.in-Connected.left.now in
+    let right = c.in-Connected.right.now in
+    let connective = meant c.in-Connected.connective in
+    let way = c.way_to-way.result in
+    let side = c.first_side-side.result.now in
+    let v = c.first_value.result in
+    let other = c.second_side-other.result.now in
+    let other_value = c.second_value.result in
+    let nowhere = small-nowhere (image c.args.term.now) in
+    let from = after_first connective c.args.value way (image left) (image right) in
+    let is_taken = taken c.args.recorder.now.theory c.args.facts.now c.args.term.now left right connective c.args.value
+    way c.known_value-left_value.result c.known_value-right_value.result
+    c.requires.formula c.requires.known c.in-Connected.ensures.meaning c.in-Connected.ensures.whole c.known_value-left_value.ensures c.known_value-right_value.ensures c.way_to-way.ensures in
+    let first : Proves c.in_ok-first-in-Connected.first.theorem given.allowed from =
+    first-gives c.args.recorder.now.theory c.shown-in-Connected.new.recorder.theory c.args.facts.now c.args.term.now left right connective c.args.value way side v c.law_of.result false
+    is_taken c.shown-in-Connected.ensures.continues.theory c.first_side-side.ensures c.first_value.ensures c.law_of.ensures nowhere (Ok c.in_ok-first-in-Connected.first)
+    c.in_ok-premise-in-Connected.premise.theorem given.allowed
+    (c.in_ok-premise-in-Connected.ensures.shows given.allowed false given.proved (small-nowhere (image side)))
+    (λ from to. c.in_ok-first-in-Connected.ensures.proves given.allowed false from to) in
+    let second : Proves c.in_ok-second-in-Connected.second.theorem given.allowed (fact other_value (image other)) =
+    c.in_ok-second-in-Connected.ensures.shows given.allowed false given.proved (small-nowhere (image other)) in
+    joined-on way (image c.in_ok-first-in-Connected.first.theorem.conclusion) (image c.in_ok-second-in-Connected.second.theorem.conclusion) from (fact other_value (image other))
+    (fact c.args.value (connected_image connective (image left) (image right))) first.concludes second.concludes
+    (second-joined c.args.recorder.now.theory c.args.facts.now c.args.term.now left right connective c.args.value way other other_value false is_taken
+    (sym c.takes_second.ensures ∙ c.if-not-takes_second.false) c.second_side-other.ensures c.second_value.ensures nowhere)
 
 pub returns-in-Atom-clause-continues : goal.returns-in-Atom-clause-continues
 returns-in-Atom-clause-continues t c =
