@@ -13,42 +13,8 @@ use std::collections::HashMap;
 /// The type of the innermost open binder of each name.
 #[derive(Drop)]
 pub struct Innermost {
+    alloc: Global,
     types: HashMap<String, Ty>,
-}
-
-// Sets the type that a name stands for, and hands out the one that it stood for.
-fn set_type(
-    alloc: Global,
-    types: &mut HashMap<String, Ty>,
-    name: &str,
-    ty: Ty,
-) -> Result<Option<Ty>, AllocError>
-    ensures old { IfOk result (λ hidden. hidden ≡ map.get_by_text types.old name.now) }
-    ensures new { OnOk result (SetsBound (map.get_by_text types.old) (map.get_by_text types.new) name.now (Some ty)) }
-{
-    let key = String::from_str(alloc, name)?;
-    let hidden = types.insert(key, ty)?;
-    Ok(hidden)
-}
-
-// Gives a name back the type that it stood for, if it stood for one.
-fn reset_type(
-    alloc: Global,
-    types: &mut HashMap<String, Ty>,
-    name: &str,
-    hidden: Option<Ty>,
-) -> Result<(), AllocError>
-    ensures new { OnOk result (SetsBound (map.get_by_text types.old) (map.get_by_text types.new) name.now hidden) }
-{
-    match hidden {
-        Some(ty) => {
-            set_type(alloc, types, name, ty)?;
-        }
-        None => {
-            types.remove(name);
-        }
-    }
-    Ok(())
 }
 
 impl Innermost {
@@ -57,6 +23,7 @@ impl Innermost {
         ensures { IsInnermost result [] }
     {
         Innermost {
+            alloc,
             types: HashMap::new(alloc),
         }
     }
@@ -72,22 +39,47 @@ impl Innermost {
         self.types.get(name)
     }
 
+    // Sets the type that a name stands for, and hands out the one that it stood for.
+    fn set(&mut self, name: &str, ty: Ty) -> Result<Option<Ty>, AllocError>
+        ensures old { IfOk result (λ hidden. hidden ≡ map.get_by_text self.old.types name.now) }
+        ensures new { OnOk result (SetsBound (map.get_by_text self.old.types) (map.get_by_text self.new.types) name.now (Some ty)) }
+    {
+        let key = String::from_str(self.alloc, name)?;
+        let hidden = self.types.insert(key, ty)?;
+        Ok(hidden)
+    }
+
+    // Gives a name back the type that it stood for, if it stood for one.
+    fn reset(&mut self, name: &str, hidden: Option<Ty>) -> Result<(), AllocError>
+        ensures new { OnOk result (SetsBound (map.get_by_text self.old.types) (map.get_by_text self.new.types) name.now hidden) }
+    {
+        match hidden {
+            Some(ty) => {
+                self.set(name, ty)?;
+            }
+            None => {
+                self.types.remove(name);
+            }
+        }
+        Ok(())
+    }
+
     /// Opens a binder, and hands out the type that its name stood for.
-    pub fn enter(&mut self, alloc: Global, name: &str, ty: &Ty) -> Result<Option<Ty>, AllocError>
+    pub fn enter(&mut self, name: &str, ty: &Ty) -> Result<Option<Ty>, AllocError>
         ensures hidden { (bindings : Bindings) → IsInnermost self.old bindings → IfOk result (λ hidden. hidden ≡ bound_type bindings name.now) }
         ensures opened { (bindings : Bindings) → IsInnermost self.old bindings → OnOk result (IsInnermost self.new ((name.now, ty.now) ∷ bindings)) }
     {
-        let Ok(ty) = ty.copy(alloc) else {
+        let Ok(ty) = ty.copy(self.alloc) else {
             return Err(AllocError);
         };
-        set_type(alloc, &mut self.types, name, ty)
+        self.set(name, ty)
     }
 
     /// Closes the innermost binder, which has this name, and gives the name back the type that it stood for.
-    pub fn leave(&mut self, alloc: Global, name: &str, hidden: Option<Ty>) -> Result<(), AllocError>
+    pub fn leave(&mut self, name: &str, hidden: Option<Ty>) -> Result<(), AllocError>
         ensures closed { (ty : HolType) (bindings : Bindings) → IsInnermost self.old ((name.now, ty) ∷ bindings) → hidden ≡ bound_type bindings name.now
             → OnOk result (IsInnermost self.new bindings) }
     {
-        reset_type(alloc, &mut self.types, name, hidden)
+        self.reset(name, hidden)
     }
 }

@@ -1,5 +1,5 @@
 // The texts of types, terms and sequents.
-ghost use Rattle.std.specs.Prelude.{◌≡◌, ◌∷◌, [], IfOk, OnOk, IfErr, IsTrue};
+ghost use Rattle.std.specs.Prelude.{◌≡◌, ◌∷◌, ◌++◌, [], IfOk, OnOk, IfErr, IsTrue};
 ghost use Rattle.std.specs.String.{string_bytes};
 ghost use Rattle.hol_model.specs.declared.fault.Fault.TheVariants.{Memory};
 ghost use Rattle.hol_model.specs.Terms.Name.{is_constant_name};
@@ -69,7 +69,6 @@ fn print_constant(
 #[cycle(print_term)]
 fn print_term(
     term: &Term,
-    alloc: Global,
     scope: &Scope,
     min_level: u8,
     binders: &mut Innermost,
@@ -82,7 +81,7 @@ fn print_term(
     let shape = shape_of(term);
     let enclosed = level(shape) < min_level;
     open(out, enclosed)?;
-    print_shape(shape, alloc, scope, binders, out)?;
+    print_shape(shape, scope, binders, out)?;
     close(out, enclosed)
 }
 
@@ -90,7 +89,6 @@ fn print_term(
 #[cycle(print_term)]
 fn print_shape(
     shape: Shape<'_>,
-    alloc: Global,
     scope: &Scope,
     binders: &mut Innermost,
     out: &mut String,
@@ -104,14 +102,14 @@ fn print_shape(
         Shape::Variable(name, ty) => print_variable(binders, name, ty, out),
         Shape::Constant(name, ty) => print_constant(scope, binders, name, ty, out),
         Shape::Apply(function, argument) => {
-            print_application(function, argument, alloc, scope, binders, out)
+            print_application(function, argument, scope, binders, out)
         }
-        Shape::Not(operand) => print_negation(operand, alloc, scope, binders, out),
+        Shape::Not(operand) => print_negation(operand, scope, binders, out),
         Shape::Join(operation, left, right) => {
-            print_infix(operation, left, right, alloc, scope, binders, out)
+            print_infix(operation, left, right, scope, binders, out)
         }
         Shape::Bind(binder, name, ty, body) => {
-            print_binding(binder, name, ty, body, alloc, scope, binders, out)
+            print_binding(binder, name, ty, body, scope, binders, out)
         }
     }
 }
@@ -120,7 +118,6 @@ fn print_shape(
 fn print_application(
     function: &Term,
     argument: &Term,
-    alloc: Global,
     scope: &Scope,
     binders: &mut Innermost,
     out: &mut String,
@@ -129,15 +126,14 @@ fn print_application(
         (term_bytes (apply_tree (term_tree (scope_of scope.now) bindings function.now) (term_tree (scope_of scope.now) bindings argument.now)))) }
     ensures kept { (bindings : Bindings) → IsInnermost binders.old bindings → OnOk result (IsInnermost binders.new bindings) }
 {
-    print_term(function, alloc, scope, 16, binders, out)?;
+    print_term(function, scope, 16, binders, out)?;
     append(out, " ")?;
-    print_term(argument, alloc, scope, 20, binders, out)
+    print_term(argument, scope, 20, binders, out)
 }
 
 #[cycle(print_term)]
 fn print_negation(
     operand: &Term,
-    alloc: Global,
     scope: &Scope,
     binders: &mut Innermost,
     out: &mut String,
@@ -147,7 +143,7 @@ fn print_negation(
     ensures kept { (bindings : Bindings) → IsInnermost binders.old bindings → OnOk result (IsInnermost binders.new bindings) }
 {
     append(out, "~")?;
-    print_term(operand, alloc, scope, 14, binders, out)
+    print_term(operand, scope, 14, binders, out)
 }
 
 #[cycle(print_term)]
@@ -155,7 +151,6 @@ fn print_infix(
     operation: Infix,
     left: &Term,
     right: &Term,
-    alloc: Global,
     scope: &Scope,
     binders: &mut Innermost,
     out: &mut String,
@@ -165,9 +160,9 @@ fn print_infix(
     ensures kept { (bindings : Bindings) → IsInnermost binders.old bindings → OnOk result (IsInnermost binders.new bindings) }
 {
     let level = infix_level(operation);
-    print_term(left, alloc, scope, level + 1, binders, out)?;
+    print_term(left, scope, level + 1, binders, out)?;
     append(out, infix_text(operation))?;
-    print_term(right, alloc, scope, level, binders, out)
+    print_term(right, scope, level, binders, out)
 }
 
 #[cycle(print_term)]
@@ -176,7 +171,6 @@ fn print_binding(
     name: &str,
     ty: &Ty,
     body: &Term,
-    alloc: Global,
     scope: &Scope,
     binders: &mut Innermost,
     out: &mut String,
@@ -186,9 +180,9 @@ fn print_binding(
     ensures kept { (bindings : Bindings) → IsInnermost binders.old bindings → OnOk result (IsInnermost binders.new bindings) }
 {
     print_typed(binder_text(binder), name, ty, ". ", out)?;
-    let hidden = binders.enter(alloc, name, ty)?;
-    print_term(body, alloc, scope, 0, binders, out)?;
-    binders.leave(alloc, name, hidden)
+    let hidden = binders.enter(name, ty)?;
+    print_term(body, scope, 0, binders, out)?;
+    binders.leave(name, hidden)
 }
 
 // Prints a term that stands under no binder.
@@ -201,7 +195,7 @@ fn print_whole(
     ensures ok { OnOk result (Appends (string_bytes out.old) (string_bytes out.new) (term_bytes (term_tree (scope_of scope.now) [] term.now))) }
 {
     let mut binders = Innermost::new(alloc);
-    print_term(term, alloc, scope, 0, &mut binders, out)
+    print_term(term, scope, 0, &mut binders, out)
 }
 
 // Prints each term behind a comma.
@@ -263,6 +257,23 @@ pub fn text_of_term(alloc: Global, scope: &Scope, term: &Term) -> Result<String,
     Ok(out)
 }
 
+// The text of the terms, a sign and the term behind it.
+fn text_around(
+    alloc: Global,
+    scope: &Scope,
+    terms: &[Term],
+    sign: &str,
+    concl: &Term,
+) -> Result<String, AllocError>
+    ensures { IfOk result (λ text. string_bytes text ≡ listed_bytes (scope_of scope.now) terms.now (sign.now ++ term_bytes (term_tree (scope_of scope.now) [] concl.now) [])) }
+{
+    let mut out = String::new(alloc);
+    print_listed(alloc, scope, terms, &mut out)?;
+    append(&mut out, sign)?;
+    print_whole(alloc, scope, concl, &mut out)?;
+    Ok(out)
+}
+
 /// The text of a sequent.
 pub fn text_of_sequent(
     alloc: Global,
@@ -275,11 +286,7 @@ pub fn text_of_sequent(
         → ReadsSequent (scope_of scope.now) (string_bytes text) (hyps.now, concl.now)) }
     ensures err { IfErr result (λ fault. fault ≡ Memory) }
 {
-    let mut out = String::new(alloc);
-    print_listed(alloc, scope, hyps, &mut out)?;
-    append(&mut out, "|- ")?;
-    print_whole(alloc, scope, concl, &mut out)?;
-    Ok(out)
+    Ok(text_around(alloc, scope, hyps, "|- ", concl)?)
 }
 
 /// The text of a goal.
@@ -292,9 +299,5 @@ pub fn text_of_goal(
     ensures ok { IfOk result (λ text. string_bytes text ≡ texts.text_of_goal (scope_of scope.now) assumptions.now concl.now) }
     ensures err { IfErr result (λ fault. fault ≡ Memory) }
 {
-    let mut out = String::new(alloc);
-    print_listed(alloc, scope, assumptions, &mut out)?;
-    append(&mut out, "?- ")?;
-    print_whole(alloc, scope, concl, &mut out)?;
-    Ok(out)
+    Ok(text_around(alloc, scope, assumptions, "?- ", concl)?)
 }
