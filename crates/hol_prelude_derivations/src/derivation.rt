@@ -85,12 +85,12 @@ pub(crate) fn derive(
 }
 
 // The earlier theorem of this number.
-fn earlier_theorem(_recorder: &mut Recorder, earlier: &[Rec], number: usize) -> Result<Rec, Fault>
-    requires { AreMade _recorder.old earlier.now }
+fn earlier_theorem(recorder: &mut Recorder, earlier: &[Rec], number: usize) -> Result<Rec, Fault>
+    requires { AreMade recorder.old earlier.now }
     ensures outcome { Answers (theorem_in result) (given (slice_get (theorems earlier.now) number) BadShape (λ theorem. Ok theorem)) }
-    ensures goes_on { GoesOn _recorder.old _recorder.new result }
+    ensures goes_on { GoesOn recorder.old recorder.new result }
 {
-    let alloc = _recorder.alloc();
+    let alloc = recorder.alloc();
     match earlier.get(number) {
         Some(theorem) => theorem.copy(alloc),
         None => Err(Fault::BadShape),

@@ -21,17 +21,17 @@ use hol_terms::Term;
 
 /// The theorem of an atom's fact.
 pub(crate) fn from_fact(
-    _recorder: &mut Recorder,
+    recorder: &mut Recorder,
     term: &Term,
     facts: &Facts<'_>,
 ) -> Result<Rec, Fault>
     requires known { is_some (value_of facts.now term.now) ≡ true }
-    requires held { AreHeld _recorder.old facts.now }
-    ensures continues { Continues _recorder.old _recorder.new result }
+    requires held { AreHeld recorder.old facts.now }
+    ensures continues { Continues recorder.old recorder.new result }
     ensures err { IfErr result (λ fault. fault ≡ Memory) }
     ensures proves { (allowed : List Nameless) → AreProved allowed facts.now → IfOk result (λ made. IsOfFact allowed facts.now term.now made.theorem) }
 {
-    let alloc = _recorder.alloc();
+    let alloc = recorder.alloc();
     match fact_of(&*facts, term) {
         Some(known) => known.theorem.copy(alloc),
         None => unreachable!(),

@@ -6,7 +6,7 @@ use Rattle.hol_prelude_derivations.proofs.derivation.earlier_theorem.Goals as go
 
 pub returns-in-Some-clause-goes_on : goal.returns-in-Some-clause-goes_on
 returns-in-Some-clause-goes_on c =
-    handed_out-copy c.args._recorder.now c.copy.result c.in-Some.theorem.now
+    handed_out-copy c.args.recorder.now c.copy.result c.in-Some.theorem.now
     (c.requires.each c.args.number c.in-Some.theorem.now
     (slice_get_read c.args.earlier.now (length c.args.earlier.now) c.args.number c.in-Some.theorem.now refl
     (ltb-true c.args.number (length c.args.earlier.now) (sym c.in-Some.ensures.lookup.0)) c.in-Some.ensures.lookup.1)) c.copy.ensures.ok
