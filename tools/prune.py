@@ -44,6 +44,7 @@ for c in names:
         r=todo.pop()
         for m in USE.finditer(files[r]):
             if m[1]==c: add(m[2].rstrip('.'))
+    if not os.path.exists(f"{base}/Lib.antt"): continue
     lib=open(f"{base}/Lib.antt",encoding="utf-8").read()
     drop=[r for r in files if r not in need]
     if any('.' in r for r in files): print(c,"has nested",[r for r in files if '.' in r][:3]); 
