@@ -1,4 +1,5 @@
 // The bodies of the definitions of the logical constants (HOL Light's `bool.ml`), and their parts, as data.
+use crate::sketch::TermSketch::{Abstraction, Combination, Constant, Equation, Formula, Variable};
 use crate::sketch::{TermSketch, TypeSketch};
 
 pub const BOOL: TypeSketch = TypeSketch::Bool;

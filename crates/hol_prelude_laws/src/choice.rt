@@ -12,6 +12,9 @@ use hol_prelude_derivations::formulas::{
 use hol_prelude_derivations::rule::Axiom;
 use hol_prelude_derivations::rule::PairRule::{DeductAntisym, EqMp, MkComb};
 use hol_prelude_derivations::rule::TermRule::Assume;
+use hol_prelude_derivations::sketch::TermSketch::{
+    Abstraction, Combination, Constant, Equation, Variable,
+};
 use hol_prelude_derivations::sketch::{TermSketch, TypeSketch};
 use hol_prelude_derivations::truth::EARLIER_TRUTH;
 
