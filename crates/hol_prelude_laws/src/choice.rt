@@ -3,7 +3,7 @@ use crate::laws::{CHOSEN, DISCHARGE, FIRST_OF_TESTS, GENERALIZES, U, V};
 use hol_prelude_derivations::conjunction::{FIRST, TRUE_AT_FIRST};
 use hol_prelude_derivations::derivation::Derivation;
 use hol_prelude_derivations::derivation::Derivation::{
-    Abs, ApTerm, ApThm, Axiom, Inst, InstType, Pair, Term,
+    Abs, ApTerm, ApThm, Inst, InstType, Pair, Term,
 };
 use hol_prelude_derivations::formulas::{
     A, ALWAYS, BOOL, FORALL, PRED, PRED_X, PRED_X_IMP, PREDICATE, QUANTIFIER, T, TEST, TESTED_TRUE,
@@ -26,7 +26,11 @@ const CHOOSES_TESTS_TRUE: Derivation = Abs(
     &Pair(
         MkComb,
         &ApTerm(&TEST, &PRED_X_HOLDS),
-        &Pair(DeductAntisym, &Axiom(Axiom::Select), &EARLIER_TRUTH),
+        &Pair(
+            DeductAntisym,
+            &Derivation::Axiom(Axiom::Select),
+            &EARLIER_TRUTH,
+        ),
     ),
 );
 
@@ -140,7 +144,11 @@ pub const ETA_AX: Derivation = Pair(
     &ETA_AX_ALWAYS,
     &Abs(
         &FUNCTION,
-        &Pair(DeductAntisym, &Axiom(Axiom::Eta), &EARLIER_TRUTH),
+        &Pair(
+            DeductAntisym,
+            &Derivation::Axiom(Axiom::Eta),
+            &EARLIER_TRUTH,
+        ),
     ),
 );
 
