@@ -7,7 +7,7 @@ use Rattle.hol_model.specs.Goals.Justifications.{Justification, named}
 use Rattle.hol_just.specs.Flat.{FlatLine, flat_sub, flat_named, flat_lemma, flat_rule, cited, cited_parts, tree_of_line, trees_after, tree}
 use Rattle.hol_just.specs.Lines.{flat_line, flat_lines}
 use Rattle.hol_just.specs.declared.line.Line.{Line}
-use Rattle.hol_just.specs.Depths.{AreWithin, cited_depth, deepest, depth_of_line, depths_after}
+use Rattle.hol_just.specs.Depths.{AreWithin, cited_depth, greatest_at, depth_of_line, depths_after}
 use Rattle.hol_model.specs.Goals.Replays.{depth, depth_of_parts}
 
 -- the lines that are left, and the first of them
@@ -19,11 +19,11 @@ pub depths-next : (depths grown : List ℕ) (lines : List Line) (i : ℕ) (line 
 depths-next depths grown lines i line depth within is more found =
     ap (λ all. depths_after all (flat_lines (drop (i + 1) lines))) (more ∙ ap (λ d. depths ++ d ∷ []) found) ∙ ap (depths_after depths) (sym (lines-drop lines i line within is))
 
-pub deepest-drop : (depths places : List ℕ) (i : ℕ) → i < length places
-    → deepest depths (drop i places) ≡ max (cited_depth depths (get_or places i 0)) (deepest depths (drop (i + 1) places))
-deepest-drop depths places i within =
-    ap (deepest depths) (drop-cons places i 0 within)
-    ∙ ap (λ n. max (cited_depth depths (get_or places i 0)) (deepest depths (drop n places))) next
+pub greatest-drop : (other : ℕ) (numbers places : List ℕ) (i : ℕ) → i < length places
+    → greatest_at other numbers (drop i places) ≡ max (get_or numbers (get_or places i 0) other) (greatest_at other numbers (drop (i + 1) places))
+greatest-drop other numbers places i within =
+    ap (greatest_at other numbers) (drop-cons places i 0 within)
+    ∙ ap (λ n. max (get_or numbers (get_or places i 0) other) (greatest_at other numbers (drop n places))) next
   where
     next : suc i ≡ i + 1
     next = omega arith
@@ -36,7 +36,7 @@ cited_depth-tree trees place =
     cases None = refl
     cases (Some found) = refl
 
-deepest-trees : (trees : List Justification) (places : List ℕ) → deepest (map depth trees) places ≡ depth_of_parts (cited_parts trees places)
+deepest-trees : (trees : List Justification) (places : List ℕ) → greatest_at 1 (map depth trees) places ≡ depth_of_parts (cited_parts trees places)
 deepest-trees trees [] = refl
 deepest-trees trees (place ∷ places) = λ i. max (cited_depth-tree trees place i) (deepest-trees trees places i)
 
@@ -76,18 +76,18 @@ within-at limit other [] place le within = le
 within-at limit other (x ∷ xs) zero le within = within.0
 within-at limit other (x ∷ xs) (suc place) le within = within-at limit other xs place le within.1
 
-pub deepest-within : (limit : ℕ) (depths places : List ℕ) → 1 ≤ limit → AreWithin limit depths → deepest depths places ≤ limit
-deepest-within limit depths [] le within = omega arith
-deepest-within limit depths (place ∷ places) le within =
-    let first = within-at limit 1 depths place le within in
-    let rest = deepest-within limit depths places le within in
+pub greatest-within : (limit other : ℕ) (numbers places : List ℕ) → other ≤ limit → AreWithin limit numbers → greatest_at other numbers places ≤ limit
+greatest-within limit other numbers [] le within = omega arith
+greatest-within limit other numbers (place ∷ places) le within =
+    let first = within-at limit other numbers place le within in
+    let rest = greatest-within limit other numbers places le within in
     omega (arith, first, rest)
 
 depth_of_line-within : (limit : ℕ) (depths : List ℕ) (line : FlatLine) → 1 ≤ limit → AreWithin limit depths → depth_of_line depths line ≤ limit + 1
 depth_of_line-within limit depths (flat_sub i) le within = omega (arith, le)
 depth_of_line-within limit depths (flat_named name) le within = omega (arith, le)
 depth_of_line-within limit depths (flat_lemma k) le within = omega (arith, le)
-depth_of_line-within limit depths (flat_rule rule places) le within = let all = deepest-within limit depths places le within in omega (arith, all)
+depth_of_line-within limit depths (flat_rule rule places) le within = let all = greatest-within limit 1 depths places le within in omega (arith, all)
 
 -- one line more
 pub line-within : (depths grown : List ℕ) (line : FlatLine) (depth : ℕ) → grown ≡ depths ++ depth ∷ [] → depth ≡ depth_of_line depths line

@@ -1,16 +1,16 @@
 -- How deep a subgoal stands in trees, computed from line to line.
-use Rattle.std.proofs.Common.{◌≡◌, ℕ, zero, suc, ◌+◌, ◌<◌, ◌≤◌, max, List, [], ◌∷◌, ◌++◌, drop, length, map, refl, sym, ap, ◌∙◌, arith, drop-cons, get_or, Bool, true, false, if◌then◌else◌, ◌==◌}
+use Rattle.std.proofs.Common.{◌≡◌, ℕ, zero, suc, ◌+◌, ◌<◌, ◌≤◌, max, List, [], ◌∷◌, ◌++◌, drop, length, map, refl, sym, ap, ◌∙◌, arith, get_or, Bool, true, false, if◌then◌else◌, ◌==◌}
 use Rattle.std.proofs.Common.{length-append, Option, Some, None}
 use Rattle.std.specs.Prelude.{slice_get, slice_index}
 use Rattle.std.specs.Option.{unwrap_or, option_map}
 use Rattle.std.proofs.lemmas.Option.{slice_get-map, unwrap_or-slice_get}
 use Rattle.hol_model.specs.Goals.Justifications.{Justification, named}
 use Rattle.hol_just.specs.Flat.{FlatLine, flat_sub, flat_named, flat_lemma, flat_rule, cited, cited_parts, tree_of_line, trees_after, tree}
-use Rattle.hol_just.specs.Depths.{AreWithin}
+use Rattle.hol_just.specs.Depths.{AreWithin, greatest_at}
 use Rattle.hol_just.specs.Lines.{flat_line, flat_lines, flat_of_lines}
-use Rattle.hol_just.specs.SubgoalDepths.{raised, depth_if, subgoal_depth, subgoal_depth_in_parts, greatest, subgoal_depth_of_line, subgoal_depths_after}
+use Rattle.hol_just.specs.SubgoalDepths.{raised, depth_if, subgoal_depth, subgoal_depth_in_parts, subgoal_depth_of_line, subgoal_depths_after}
 use Rattle.hol_just.specs.declared.line.Line.{Line}
-use Rattle.hol_just.proofs.Depths.{lines-drop, within-more, within-end, within-at}
+use Rattle.hol_just.proofs.Depths.{lines-drop, within-more, within-end, greatest-within}
 
 pub depths-next : (number : ℕ) (depths grown : List ℕ) (lines : List Line) (i : ℕ) (line : Line) (depth : ℕ) → i < length lines → line ≡ get_or lines i line
     → grown ≡ depths ++ depth ∷ [] → depth ≡ subgoal_depth_of_line number depths (flat_line line)
@@ -18,15 +18,6 @@ pub depths-next : (number : ℕ) (depths grown : List ℕ) (lines : List Line) (
 depths-next number depths grown lines i line depth within is more found =
     ap (λ all. subgoal_depths_after number all (flat_lines (drop (i + 1) lines))) (more ∙ ap (λ d. depths ++ d ∷ []) found)
     ∙ ap (subgoal_depths_after number depths) (sym (lines-drop lines i line within is))
-
-pub greatest-drop : (depths places : List ℕ) (i : ℕ) → i < length places
-    → greatest depths (drop i places) ≡ max (slice_index depths (get_or places i 0)) (greatest depths (drop (i + 1) places))
-greatest-drop depths places i within =
-    ap (greatest depths) (drop-cons places i 0 within)
-    ∙ ap (λ n. max (slice_index depths (get_or places i 0)) (greatest depths (drop n places))) next
-  where
-    next : suc i ≡ i + 1
-    next = omega arith
 
 depth_at-tree : (number : ℕ) (trees : List Justification) (place : ℕ) → slice_index (map (subgoal_depth number) trees) place ≡ subgoal_depth number (cited trees place)
 depth_at-tree number trees place =
@@ -38,7 +29,7 @@ depth_at-tree number trees place =
     cases (Some found) = refl
 
 greatest-trees : (number : ℕ) (trees : List Justification) (places : List ℕ)
-    → greatest (map (subgoal_depth number) trees) places ≡ subgoal_depth_in_parts number (cited_parts trees places)
+    → greatest_at 0 (map (subgoal_depth number) trees) places ≡ subgoal_depth_in_parts number (cited_parts trees places)
 greatest-trees number trees [] = refl
 greatest-trees number trees (place ∷ places) = λ i. max (depth_at-tree number trees place i) (greatest-trees number trees places i)
 
@@ -70,13 +61,6 @@ root_depth number depths lines root are =
 
 -- ---- limits of depths
 
-pub greatest-within : (limit : ℕ) (depths places : List ℕ) → AreWithin limit depths → greatest depths places ≤ limit
-greatest-within limit depths [] within = omega arith
-greatest-within limit depths (place ∷ places) within =
-    let first = within-at limit 0 depths place (omega arith) within in
-    let rest = greatest-within limit depths places within in
-    omega (arith, first, rest)
-
 raised-within : (depth limit : ℕ) → depth ≤ limit → raised depth ≤ limit + 1
 raised-within zero limit le = omega arith
 raised-within (suc depth) limit le = omega (arith, le)
@@ -92,7 +76,7 @@ depth_of_line-within : (number limit : ℕ) (depths : List ℕ) (line : FlatLine
 depth_of_line-within number limit depths (flat_sub i) within = depth_if-within number i limit
 depth_of_line-within number limit depths (flat_named name) within = omega arith
 depth_of_line-within number limit depths (flat_lemma k) within = omega arith
-depth_of_line-within number limit depths (flat_rule rule places) within = raised-within (greatest depths places) limit (greatest-within limit depths places within)
+depth_of_line-within number limit depths (flat_rule rule places) within = raised-within (greatest_at 0 depths places) limit (greatest-within limit 0 depths places (omega arith) within)
 
 -- one line more
 pub line-within : (number : ℕ) (depths grown : List ℕ) (line : FlatLine) (depth : ℕ) → grown ≡ depths ++ depth ∷ [] → depth ≡ subgoal_depth_of_line number depths line

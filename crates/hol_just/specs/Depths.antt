@@ -2,17 +2,18 @@
 use Rattle.std.specs.Prelude.{ℕ, ◌+◌, ◌≤◌, List, [], ◌∷◌, ◌++◌, max, slice_index_or}
 use Rattle.hol_just.specs.Flat.{FlatLine, flat_rule}
 
+-- the greatest of the numbers at these places, of a place without a number the other one
+abbrev pub greatest_at : ℕ → List ℕ → List ℕ → ℕ
+greatest_at other numbers [] = 0
+greatest_at other numbers (place ∷ places) = max (slice_index_or numbers place other) (greatest_at other numbers places)
+
 -- the depth of a cited line
 abbrev pub cited_depth : List ℕ → ℕ → ℕ
 cited_depth depths place = slice_index_or depths place 1
 
-abbrev pub deepest : List ℕ → List ℕ → ℕ
-deepest depths [] = 0
-deepest depths (place ∷ places) = max (cited_depth depths place) (deepest depths places)
-
 -- the depth of a line's tree, behind lines of these depths
 abbrev pub depth_of_line : List ℕ → FlatLine → ℕ
-depth_of_line depths (flat_rule rule places) = deepest depths places + 1
+depth_of_line depths (flat_rule rule places) = greatest_at 1 depths places + 1
 depth_of_line depths _ = 1
 
 -- the depths of lines' trees, after those of the lines before

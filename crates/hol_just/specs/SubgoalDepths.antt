@@ -1,6 +1,7 @@
 -- How deep a subgoal stands in a justification: in its tree, and computed from line to line.
-use Rattle.std.specs.Prelude.{ℕ, zero, suc, List, [], ◌∷◌, ◌++◌, max, ◌==◌, if◌then◌else◌, slice_index}
+use Rattle.std.specs.Prelude.{ℕ, zero, suc, List, [], ◌∷◌, ◌++◌, max, ◌==◌, if◌then◌else◌}
 use Rattle.hol_model.specs.Goals.Justifications.{Justification, sub, named, lemma, by_rule, Parts, no_parts, part}
+use Rattle.hol_just.specs.Depths.{greatest_at}
 use Rattle.hol_just.specs.Flat.{FlatLine, flat_sub, flat_rule}
 
 -- one level more, where it stands there
@@ -23,15 +24,10 @@ abbrev mutual
   subgoal_depth_in_parts number no_parts = 0
   subgoal_depth_in_parts number (part first rest) = max (subgoal_depth number first) (subgoal_depth_in_parts number rest)
 
--- the greatest of the depths at these places
-abbrev pub greatest : List ℕ → List ℕ → ℕ
-greatest depths [] = 0
-greatest depths (place ∷ places) = max (slice_index depths place) (greatest depths places)
-
 -- how deep it stands in a line's tree, behind lines in whose trees it stands so deep
 abbrev pub subgoal_depth_of_line : ℕ → List ℕ → FlatLine → ℕ
 subgoal_depth_of_line number depths (flat_sub i) = depth_if number i
-subgoal_depth_of_line number depths (flat_rule rule places) = raised (greatest depths places)
+subgoal_depth_of_line number depths (flat_rule rule places) = raised (greatest_at 0 depths places)
 subgoal_depth_of_line number depths _ = 0
 
 -- the same for lines, after those before

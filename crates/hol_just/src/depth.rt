@@ -3,37 +3,13 @@ ghost use Rattle.std.specs.Prelude.{◌≡◌, ◌+◌, ◌<◌, ◌^◌, [], le
 ghost use Rattle.hol_model.specs.declared.fault.Fault.TheVariants.{Memory};
 ghost use Rattle.hol_model.specs.Goals.Replays.{depth, is_within_depth};
 ghost use Rattle.hol_just.specs.Lines.{flat_line, flat_lines, flat_of_lines};
-ghost use Rattle.hol_just.specs.Depths.{AreWithin, cited_depth, deepest, depth_of_line, depths_after};
+ghost use Rattle.hol_just.specs.Depths.{AreWithin, depth_of_line, depths_after};
 ghost use Rattle.hol_just.specs.Flat.{tree};
 
 use crate::line::Line;
+use crate::places::{greatest_at, number_at};
 use hol_model::{Fault, JUSTIFICATION_DEPTH_LIMIT};
 use std::alloc::Global;
-
-// The depth at a place; 1 where there is none.
-fn depth_at(depths: &[usize], place: usize) -> usize
-    ensures { result ≡ cited_depth depths.now place }
-{
-    if place < depths.len() {
-        depths[place]
-    } else {
-        1
-    }
-}
-
-// The greatest of the depths at these places.
-fn deepest(depths: &[usize], places: &[usize]) -> usize
-    ensures { result ≡ deepest depths.now places.now }
-{
-    let mut greatest = 0;
-    for place in places {
-        let depth = depth_at(depths, *place);
-        if greatest < depth {
-            greatest = depth;
-        }
-    }
-    greatest
-}
 
 // The depth of a line's tree, behind lines of these depths.
 fn depth_of_line(depths: &[usize], line: &Line) -> usize
@@ -42,7 +18,7 @@ fn depth_of_line(depths: &[usize], line: &Line) -> usize
     ensures { result ≡ depth_of_line depths.now (flat_line line.now) }
 {
     match line {
-        Line::ByRule(_, places) => deepest(depths, places) + 1,
+        Line::ByRule(_, places) => greatest_at(depths, places, 1) + 1,
         _ => 1,
     }
 }
@@ -67,7 +43,7 @@ pub(crate) fn root_depth(alloc: Global, lines: &[Line], root: usize) -> Result<u
     ensures err { IfErr result (λ fault. fault ≡ Memory) }
 {
     let depths = depths(alloc, lines)?;
-    Ok(depth_at(&depths, root))
+    Ok(number_at(&depths, root, 1))
 }
 
 /// Whether the tree of the line at a place is within the limit.

@@ -13,6 +13,7 @@ use crate::just::Just;
 use crate::line::Line;
 use crate::making::finished;
 use crate::moving::{Joined, moved};
+use crate::places::number_at;
 use hol_model::Fault;
 use std::alloc::Global;
 use std::rc::Rc;
@@ -31,17 +32,6 @@ struct Spliced {
     new_places: Vec<usize>,
 }
 
-// The place at a number; 0 where there is none.
-fn place_at(places: &[usize], number: usize) -> usize
-    ensures { result ≡ slice_index places.now number }
-{
-    if number < places.len() {
-        places[number]
-    } else {
-        0
-    }
-}
-
 // The new places of cited lines.
 fn redirected_places(alloc: Global, places: &[usize], cites: &[usize]) -> Result<Vec<usize>, Fault>
     ensures ok { IfOk result (λ redirected. redirected.items ≡ map (slice_index places.now) cites.now) }
@@ -49,7 +39,7 @@ fn redirected_places(alloc: Global, places: &[usize], cites: &[usize]) -> Result
 {
     let mut redirected = Vec::new(alloc);
     for cite in cites {
-        redirected.push(place_at(places, *cite))?;
+        redirected.push(number_at(places, *cite, 0))?;
     }
     Ok(redirected)
 }
@@ -146,7 +136,7 @@ pub fn splice(alloc: Global, just: &Just, parts: &[Step]) -> Result<Just, Fault>
         subgoals = moved(part.goals.len(), subgoals)?;
     }
     let spliced = redirected(alloc, joined, subgoals, &just.node.lines)?;
-    let root = place_at(&spliced.new_places, just.node.root);
+    let root = number_at(&spliced.new_places, just.node.root, 0);
     finished(alloc, spliced.lines, root)
 }
 
@@ -155,7 +145,7 @@ fn redirected_own_places(places: &[usize], mut cites: Vec<usize>) -> Vec<usize>
     ensures { result.items ≡ map (slice_index places.now) cites.items }
 {
     for i in 0..cites.len() {
-        cites[i] = place_at(places, cites[i]);
+        cites[i] = number_at(places, cites[i], 0);
     }
     cites
 }
@@ -243,7 +233,7 @@ pub fn spliced_step(alloc: Global, just: Just, parts: Vec<Step>) -> Result<Step,
     }
     let root = just.node.root;
     let spliced = redirected_just(alloc, joined, goals.len(), just)?;
-    let root = place_at(&spliced.new_places, root);
+    let root = number_at(&spliced.new_places, root, 0);
     match finished(alloc, spliced.lines, root) {
         Ok(just) => Ok(Step { goals, just }),
         Err(fault) => Err(fault),

@@ -1,39 +1,15 @@
 // How deep a subgoal stands in lines' trees, each line asked once.
-ghost use Rattle.std.specs.Prelude.{◌≡◌, ◌<◌, ◌^◌, [], length, slice_index, IfOk, IfErr};
+ghost use Rattle.std.specs.Prelude.{◌≡◌, ◌<◌, ◌^◌, [], length, IfOk, IfErr};
 ghost use Rattle.hol_model.specs.declared.fault.Fault.TheVariants.{Memory};
 ghost use Rattle.hol_just.specs.Depths.{AreWithin};
 ghost use Rattle.hol_just.specs.Flat.{tree};
 ghost use Rattle.hol_just.specs.Lines.{flat_line, flat_lines, flat_of_lines};
-ghost use Rattle.hol_just.specs.SubgoalDepths.{greatest, subgoal_depth, subgoal_depth_of_line, subgoal_depths_after};
+ghost use Rattle.hol_just.specs.SubgoalDepths.{subgoal_depth, subgoal_depth_of_line, subgoal_depths_after};
 
 use crate::line::Line;
+use crate::places::{greatest_at, number_at};
 use hol_model::Fault;
 use std::alloc::Global;
-
-// The number at a place; 0 where there is none.
-fn depth_at(depths: &[usize], place: usize) -> usize
-    ensures { result ≡ slice_index depths.now place }
-{
-    if place < depths.len() {
-        depths[place]
-    } else {
-        0
-    }
-}
-
-// The greatest of the depths at these places.
-fn greatest_at(depths: &[usize], places: &[usize]) -> usize
-    ensures { result ≡ greatest depths.now places.now }
-{
-    let mut greatest = 0;
-    for place in places {
-        let depth = depth_at(depths, *place);
-        if greatest < depth {
-            greatest = depth;
-        }
-    }
-    greatest
-}
 
 // How deep the subgoal stands in a line's tree, behind lines in whose trees it stands so deep.
 fn depth_of_line(depths: &[usize], number: usize, line: &Line) -> usize
@@ -44,7 +20,7 @@ fn depth_of_line(depths: &[usize], number: usize, line: &Line) -> usize
     match line {
         Line::Sub(other) => usize::from(*other == number),
         Line::ByRule(_, places) => {
-            let greatest = greatest_at(depths, places);
+            let greatest = greatest_at(depths, places, 0);
             if greatest == 0 {
                 return 0;
             }
@@ -79,5 +55,5 @@ pub(crate) fn root_subgoal_depth(
     ensures err { IfErr result (λ fault. fault ≡ Memory) }
 {
     let depths = depths(alloc, lines, number)?;
-    Ok(depth_at(&depths, root))
+    Ok(number_at(&depths, root, 0))
 }

@@ -16,7 +16,7 @@ loop-part-preserved c = (
 pub finished-requires : goal.finished-requires
 finished-requires c =
     let none = nil_from_length c.loop-part.part-iterator.rest.items (omega (arith, c.loop-part.part-iterator.rest.ok.0, c.in-None.ensures.steps.0)) in
-    (is-spliced c.args.just c.args.parts.items c.loop-part.joined (length c.loop-part.goals.items) c.in_ok-spliced.spliced c.place_at-root.result
+    (is-spliced c.args.just c.args.parts.items c.loop-part.joined (length c.loop-part.goals.items) c.in_ok-spliced.spliced c.number_at-root.result
     (all-parts c.loop-part.part-iterator.rest.items c.loop-part.joined (length c.loop-part.goals.items) (map flat_portion c.args.parts.items) none c.loop-part.invariant.0) (search rules)
     (search rules)).cited
 
@@ -28,14 +28,14 @@ returns-in-Ok-clause-goals c =
 pub returns-in-Ok-clause-tree : goal.returns-in-Ok-clause-tree
 returns-in-Ok-clause-tree c =
     let none = nil_from_length c.loop-part.part-iterator.rest.items (omega (arith, c.loop-part.part-iterator.rest.ok.0, c.in-None.ensures.steps.0)) in
-    c.in-Ok.ensures.tree ∙ (is-spliced c.args.just c.args.parts.items c.loop-part.joined (length c.loop-part.goals.items) c.in_ok-spliced.spliced c.place_at-root.result
+    c.in-Ok.ensures.tree ∙ (is-spliced c.args.just c.args.parts.items c.loop-part.joined (length c.loop-part.goals.items) c.in_ok-spliced.spliced c.number_at-root.result
     (all-parts c.loop-part.part-iterator.rest.items c.loop-part.joined (length c.loop-part.goals.items) (map flat_portion c.args.parts.items) none c.loop-part.invariant.0) (search rules)
     (search rules)).tree
 
 pub returns-in-Err-clause-err : goal.returns-in-Err-clause-err
 returns-in-Err-clause-err c =
     let none = nil_from_length c.loop-part.part-iterator.rest.items (omega (arith, c.loop-part.part-iterator.rest.ok.0, c.in-None.ensures.steps.0)) in
-    refused-tree (splice (tree_of c.args.just) (map (λ part. portion_of (step_of part)) c.args.parts.items)) c.in_ok-spliced.spliced.lines.items c.place_at-root.result c.in-Err.fault
-    (is-spliced c.args.just c.args.parts.items c.loop-part.joined (length c.loop-part.goals.items) c.in_ok-spliced.spliced c.place_at-root.result
+    refused-tree (splice (tree_of c.args.just) (map (λ part. portion_of (step_of part)) c.args.parts.items)) c.in_ok-spliced.spliced.lines.items c.number_at-root.result c.in-Err.fault
+    (is-spliced c.args.just c.args.parts.items c.loop-part.joined (length c.loop-part.goals.items) c.in_ok-spliced.spliced c.number_at-root.result
     (all-parts c.loop-part.part-iterator.rest.items c.loop-part.joined (length c.loop-part.goals.items) (map flat_portion c.args.parts.items) none c.loop-part.invariant.0) (search rules)
     (search rules)).tree c.in-Err.ensures.err
