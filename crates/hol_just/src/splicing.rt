@@ -94,6 +94,18 @@ impl Spliced {
     }
 }
 
+// The lines of portions, without an old line behind them, and the places of the portions' roots.
+fn begun(alloc: Global, joined: Joined) -> (Spliced, Vec<usize>)
+    ensures lines { redirected_of result.0 ≡ record { lines = flat_lines joined.lines.items; new_places = [] } }
+    ensures roots { result.1.items ≡ joined.roots.items }
+{
+    let spliced = Spliced {
+        lines: joined.lines,
+        new_places: Vec::new(alloc),
+    };
+    (spliced, joined.roots)
+}
+
 // The lines of a justification behind its portions.
 fn redirected(
     alloc: Global,
@@ -104,14 +116,7 @@ fn redirected(
     ensures ok { IfOk result (λ made. redirected_of made ≡ redirected joined.roots.items subgoals (record { lines = flat_lines joined.lines.items; new_places = [] }) (flat_lines lines.now)) }
     ensures err { IfErr result (λ fault. fault ≡ Memory) }
 {
-    let Joined {
-        lines: joined_lines,
-        roots,
-    } = joined;
-    let mut spliced = Spliced {
-        lines: joined_lines,
-        new_places: Vec::new(alloc),
-    };
+    let (mut spliced, roots) = begun(alloc, joined);
     for line in lines {
         let replacement = replaced_line(alloc, &roots, subgoals, &spliced.new_places, line)?;
         spliced.take(replacement)?;
@@ -181,14 +186,7 @@ fn redirected_own(
     ensures ok { IfOk result (λ made. redirected_of made ≡ redirected joined.roots.items subgoals (record { lines = flat_lines joined.lines.items; new_places = [] }) (flat_lines lines.items)) }
     ensures err { IfErr result (λ fault. fault ≡ Memory) }
 {
-    let Joined {
-        lines: joined_lines,
-        roots,
-    } = joined;
-    let mut spliced = Spliced {
-        lines: joined_lines,
-        new_places: Vec::new(alloc),
-    };
+    let (mut spliced, roots) = begun(alloc, joined);
     for line in lines {
         let replacement = replaced_own_line(&roots, subgoals, &spliced.new_places, line)?;
         spliced.take(replacement)?;
