@@ -140,7 +140,11 @@ pub fn named_same(recorder: &mut Recorder, term: &Term, premise: &Rec) -> Result
     if !term.has_binders() {
         return kept(recorder, premise);
     }
-    renamed(recorder, term, premise)
+    let _premise = recorder.thm(premise).concl();
+    let _type = term.ty();
+    recorder.theory_is_legal();
+    let reflexive = steps::refl_known(recorder, term)?;
+    steps::eq_mp_known(recorder, &reflexive, premise)
 }
 
 // The same theorem.
@@ -155,23 +159,6 @@ fn kept(recorder: &mut Recorder, premise: &Rec) -> Result<Rec, Fault>
     premise.copy(alloc)
 }
 
-// The theorem with these names, by REFL and EQ_MP.
-fn renamed(recorder: &mut Recorder, term: &Term, premise: &Rec) -> Result<Rec, Fault>
-    requires premise { IsMade recorder.old premise.now }
-    requires formula { IsFormula recorder.old.theory term.now }
-    requires same { image premise.now.theorem.conclusion ≡ image term.now }
-    ensures continues { Continues recorder.old recorder.new result }
-    ensures names { IfOk result (λ made. made.theorem.conclusion ≡ term.now) }
-    ensures derives { (h : List Nameless) → Shows premise.now.theorem h (image term.now)
-        → DerivesIf (nameless_within_limits (nameless_equation bool_type (image term.now) (image term.now))) result h (image term.now) }
-{
-    let _premise = recorder.thm(premise).concl();
-    let _type = term.ty();
-    recorder.theory_is_legal();
-    let reflexive = steps::refl_known(recorder, term)?;
-    steps::eq_mp_known(recorder, &reflexive, premise)
-}
-
 /// From `p` and `q`, `q`, with the hypotheses of the first, and those of the second but `p`, in two steps.
 pub fn cut(recorder: &mut Recorder, first: &Rec, second: &Rec) -> Result<Rec, Fault>
     requires first { IsMade recorder.old first.now }
@@ -181,8 +168,7 @@ pub fn cut(recorder: &mut Recorder, first: &Rec, second: &Rec) -> Result<Rec, Fa
     ensures derives { (h k : List Nameless) (p q : Nameless) → Shows first.now.theorem h p → Shows second.now.theorem k q
         → DerivesIf (nameless_within_limits (nameless_equation bool_type p q)) result (h ++ without p k) q }
 {
-    let _first = recorder.thm(first).concl();
-    let _second = recorder.thm(second).concl();
+    steps::theorems_hold(first, second);
     let equivalence = steps::deduct_antisym(recorder, first, second)?;
     steps::eq_mp_known(recorder, &equivalence, first)
 }
@@ -197,8 +183,7 @@ pub fn cut_known(recorder: &mut Recorder, first: &Rec, second: &Rec) -> Result<R
     ensures derives { (h k : List Nameless) (p q : Nameless) → Shows first.now.theorem h p → Shows second.now.theorem k q
         → DerivesIf (nameless_within_limits (nameless_equation bool_type p q)) result (h ++ without p k) q }
 {
-    let _first = recorder.thm(first).concl();
-    let _second = recorder.thm(second).concl();
+    steps::theorems_hold(first, second);
     let equivalence = steps::deduct_antisym_known(recorder, first, second)?;
     steps::eq_mp_known(recorder, &equivalence, first)
 }

@@ -35,6 +35,15 @@ pub fn conclusion_of<'a>(recorder: &Recorder, premise: &'a Rec) -> &'a Term
     recorder.thm(premise).concl()
 }
 
+// Both are theorems. Nothing is computed: the clauses are the law, for callers' proofs.
+pub(crate) fn theorems_hold(first: &Rec, second: &Rec)
+    ensures first { IsTheorem first.now.theorem }
+    ensures second { IsTheorem second.now.theorem }
+{
+    let _first = first.theorem().concl();
+    let _second = second.theorem().concl();
+}
+
 // REFL, which walks the term.
 pub(crate) fn refl(recorder: &mut Recorder, term: &Term) -> Result<Rec, Fault>
     ensures continues { Continues recorder.old recorder.new result }
@@ -94,8 +103,7 @@ pub fn trans(recorder: &mut Recorder, first: &Rec, second: &Rec) -> Result<Rec, 
     ensures derives { (h k : List Nameless) (ty : HolType) (l m r : Nameless) → Shows first.now.theorem h (nameless_equation ty l m)
         → Shows second.now.theorem k (nameless_equation ty m r) → Derives result (h ++ k) (nameless_equation ty l r) }
 {
-    let _first = recorder.thm(first).concl();
-    let _second = recorder.thm(second).concl();
+    theorems_hold(first, second);
     recorder.infer(Inference::Trans(first, second))
 }
 
@@ -109,8 +117,7 @@ pub fn trans_known(recorder: &mut Recorder, first: &Rec, second: &Rec) -> Result
     ensures derives { (h k : List Nameless) (ty : HolType) (l m r : Nameless) → Shows first.now.theorem h (nameless_equation ty l m)
         → Shows second.now.theorem k (nameless_equation ty m r) → Derives result (h ++ k) (nameless_equation ty l r) }
 {
-    let _first = recorder.thm(first).concl();
-    let _second = recorder.thm(second).concl();
+    theorems_hold(first, second);
     recorder.infer_known(Inference::Trans(first, second))
 }
 
@@ -123,8 +130,7 @@ pub fn eq_mp(recorder: &mut Recorder, first: &Rec, second: &Rec) -> Result<Rec, 
     ensures names { IfOk result (λ made. (sides : NamedTerm × NamedTerm) → dest_equation first.now.theorem.conclusion ≡ Some sides → made.theorem.conclusion ≡ sides.1) }
     ensures gives { (h k : List Nameless) (p q : Nameless) → Shows first.now.theorem h (nameless_equation bool_type p q) → Shows second.now.theorem k p → Gives result (h ++ k) q }
 {
-    let _first = recorder.thm(first).concl();
-    let _second = recorder.thm(second).concl();
+    theorems_hold(first, second);
     recorder.infer(Inference::EqMp(first, second))
 }
 
@@ -137,8 +143,7 @@ pub fn eq_mp_known(recorder: &mut Recorder, first: &Rec, second: &Rec) -> Result
     ensures names { IfOk result (λ made. (sides : NamedTerm × NamedTerm) → dest_equation first.now.theorem.conclusion ≡ Some sides → made.theorem.conclusion ≡ sides.1) }
     ensures gives { (h k : List Nameless) (p q : Nameless) → Shows first.now.theorem h (nameless_equation bool_type p q) → Shows second.now.theorem k p → Gives result (h ++ k) q }
 {
-    let _first = recorder.thm(first).concl();
-    let _second = recorder.thm(second).concl();
+    theorems_hold(first, second);
     recorder.infer_known(Inference::EqMp(first, second))
 }
 
@@ -154,8 +159,7 @@ pub fn mk_comb(recorder: &mut Recorder, first: &Rec, second: &Rec) -> Result<Rec
         → Shows first.now.theorem h (nameless_equation (function_type domain codomain) f g)
         → Shows second.now.theorem k (nameless_equation domain x y) → Derives result (h ++ k) (nameless_equation codomain (app f x) (app g y)) }
 {
-    let _first = recorder.thm(first).concl();
-    let _second = recorder.thm(second).concl();
+    theorems_hold(first, second);
     recorder.infer(Inference::MkComb(first, second))
 }
 
@@ -168,8 +172,7 @@ pub fn deduct_antisym(recorder: &mut Recorder, first: &Rec, second: &Rec) -> Res
     ensures derives { (h k : List Nameless) (p q : Nameless) → Shows first.now.theorem h p → Shows second.now.theorem k q
         → Derives result (without q h ++ without p k) (nameless_equation bool_type p q) }
 {
-    let _first = recorder.thm(first).concl();
-    let _second = recorder.thm(second).concl();
+    theorems_hold(first, second);
     recorder.infer(Inference::DeductAntisym(first, second))
 }
 
@@ -187,8 +190,7 @@ pub fn deduct_antisym_known(
     ensures derives { (h k : List Nameless) (p q : Nameless) → Shows first.now.theorem h p → Shows second.now.theorem k q
         → Derives result (without q h ++ without p k) (nameless_equation bool_type p q) }
 {
-    let _first = recorder.thm(first).concl();
-    let _second = recorder.thm(second).concl();
+    theorems_hold(first, second);
     recorder.infer_known(Inference::DeductAntisym(first, second))
 }
 

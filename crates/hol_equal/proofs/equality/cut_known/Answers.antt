@@ -14,12 +14,12 @@ eq_mp_known-requires-clause-second c = journals-grow.stays c.args.recorder.now c
 pub eq_mp_known-requires-clause-fits : goal.eq_mp_known-requires-clause-fits
 eq_mp_known-requires-clause-fits c =
     equation-fits c.in_ok-equivalence.equivalence.theorem c.args.first.now.theorem c.args.second.now.theorem.conclusion
-    (formula_of c.args.first.now.theorem (rw c.thm.ensures at c.concl-first.ensures.theorem)) c.in_ok-equivalence.ensures.names
+    (formula_of c.args.first.now.theorem c.theorems_hold.ensures.first) c.in_ok-equivalence.ensures.names
 
 pub returns-clause-names : goal.returns-clause-names
 returns-clause-names c =
     right-names c.eq_mp_known.result c.in_ok-equivalence.equivalence.theorem.conclusion c.args.first.now.theorem.conclusion c.args.second.now.theorem.conclusion
-    (formula_of c.args.first.now.theorem (rw c.thm.ensures at c.concl-first.ensures.theorem)) c.in_ok-equivalence.ensures.names c.eq_mp_known.ensures.names
+    (formula_of c.args.first.now.theorem c.theorems_hold.ensures.first) c.in_ok-equivalence.ensures.names c.eq_mp_known.ensures.names
 
 pub returns-clause-derives : goal.returns-clause-derives
 returns-clause-derives c h k p q one two =

@@ -4,7 +4,7 @@ use Rattle.hol_equal.proofs.steps.deduct_antisym.Goals as goal
 pub returns-clause-derives : goal.returns-clause-derives
 returns-clause-derives c =
     deduct-derives c.infer.result c.args.recorder.now.theory c.args.first.now.theorem c.args.second.now.theorem
-    (rw c.thm.ensures at c.concl-first.ensures.theorem) (rw c.thm-2.ensures at c.concl-second.ensures.theorem) c.infer.ensures.outcome
+    c.theorems_hold.ensures.first c.theorems_hold.ensures.second c.infer.ensures.outcome
 
 pub returns-clause-names : goal.returns-clause-names
 returns-clause-names c = deduct-names c.infer.result c.args.recorder.now.theory c.args.first.now.theorem c.args.second.now.theorem c.infer.ensures.outcome

@@ -4,7 +4,7 @@ use Rattle.hol_equal.proofs.steps.eq_mp_known.Goals as goal
 pub returns-clause-gives : goal.returns-clause-gives
 returns-clause-gives c =
     eq_mp-gives c.infer_known.result c.args.recorder.now.theory c.args.first.now.theorem c.args.second.now.theorem
-    (rw c.thm.ensures at c.concl-first.ensures.theorem) c.infer_known.ensures.outcome
+    c.theorems_hold.ensures.first c.infer_known.ensures.outcome
 
 pub returns-clause-names : goal.returns-clause-names
 returns-clause-names c = eq_mp-names c.infer_known.result c.args.recorder.now.theory c.args.first.now.theorem c.args.second.now.theorem c.infer_known.ensures.outcome
