@@ -17,7 +17,7 @@ use Rattle.hol_model.specs.Logic.Derivable.{nameless_equation}
 use Rattle.hol_model.specs.Kernel.Outcome.{Answers, unless}
 use Rattle.hol_model.specs.Kernel.Constructors.{combination_outcome}
 use Rattle.hol_model.specs.Kernel.Rules.{first_unknown}
-use Rattle.hol_model.specs.Derived.DerivedRules.{Stated, AnswersStated, up_to_names, terms_of_stated, is_roomy, is_roomy_type, has_roomy_types}
+use Rattle.hol_model.specs.Derived.DerivedRules.{Stated, AnswersStated, up_to_names, is_roomy, is_roomy_type, has_roomy_types}
 use Rattle.hol_model.proofs.Tests.{first_of_both, second_of_both, both, same_variable-self}
 use Rattle.hol_model.proofs.Terms.Filling.{fill_at-close_at}
 use Rattle.hol_model.proofs.Terms.Typing.{nameless_type-is}
@@ -29,11 +29,12 @@ use Rattle.hol_model.specs.Logic.KnownTerm.{is_known, knows_types, knows_constan
 use Rattle.hol_model.specs.Kernel.Instantiation.{replacements_refusal}
 use Rattle.hol_kernel.proofs.RuleLemmas.{known_term}
 use Rattle.hol_journal.specs.Journal.{Recorded, theorem_in}
-use Rattle.hol_equal.specs.Sequents.{DerivesInstance, IsPast}
-use Rattle.hol_equal.specs.Conversions.{beta_converted_outcome}
+use Rattle.hol_equal.specs.Sequents.{DerivesIf, IsPast}
+use Rattle.hol_equal.specs.Conversions as spec
+use Rattle.hol_equal.specs.Conversions.{conversion_fits, beta_converted_outcome}
 use Rattle.hol_equal.proofs.StepLemmas.{application}
 use Rattle.hol_equal.proofs.CutLemmas.{answers-stated, derives-where}
-use Rattle.hol_equal.proofs.Sizes.{IsSized, leaves_room, sized-more, sized-app, sized-equation, sized-within, past-room}
+use Rattle.hol_equal.proofs.Sizes.{IsSized, leaves_room, sized-more, sized-app, sized-equation, sized-within}
 
 -- putting for a variable
 
@@ -198,10 +199,10 @@ module _ (theory : Theory) (name : List ℕ) (ty codomain : HolType) (body argum
   trivial_sized : RedexRoom → IsSized 1001 5002 (app closed (free name ty))
   trivial_sized room = sized-app 1000 5000 1 closed (free name ty) room.function (variable_sized room.domain_few)
 
-  pub trivial-within : is_roomy (image redex) ≡ true → nameless_within_limits (image trivial_redex) ≡ true
+  trivial-within : is_roomy (image redex) ≡ true → nameless_within_limits (image trivial_redex) ≡ true
   trivial-within roomy = ap nameless_within_limits trivial_image ∙ sized-within 1001 5002 (app closed (free name ty)) (trivial_sized (redex_room roomy)) (omega arith) (omega arith)
 
-  pub conversion-within : is_roomy (image redex) ≡ true → nameless_within_limits (nameless_equation codomain (app closed (free name ty)) (image body)) ≡ true
+  conversion-within : is_roomy (image redex) ≡ true → nameless_within_limits (nameless_equation codomain (app closed (free name ty)) (image body)) ≡ true
   conversion-within roomy =
       let room = redex_room roomy in
       let few = room.codomain_few in
@@ -219,13 +220,6 @@ module _ (theory : Theory) (name : List ℕ) (ty codomain : HolType) (body argum
 
   outcome_is : first_unknown theory redex ≡ None → beta_converted_outcome theory redex ≡ Ok converted
   outcome_is none = rw none refl
-
-  pub beta_conv-past : (fault : Fault) (within : Bool) → first_unknown theory redex ≡ None → IsPast fault within → (is_roomy (image redex) ≡ true → within ≡ true)
-      → AnswersStated (Err fault) (image redex ∷ []) (beta_converted_outcome theory redex)
-  beta_conv-past fault within none past fits =
-      let rest = terms_of_stated converted in
-      subst (λ (o : Result Stated Fault). AnswersStated (Err fault) (image redex ∷ []) o) (sym (outcome_is none))
-      (past-room fault within (list_all is_roomy (image redex ∷ rest)) past (λ all. fits (first_of_both (is_roomy (image redex)) (list_all is_roomy rest) all)))
 
   -- the walk
   pub beta_conv-walk : (fault : Fault) → first_unknown theory redex ≡ Some fault → AnswersStated (Err fault) (image redex ∷ []) (beta_converted_outcome theory redex)
@@ -257,25 +251,33 @@ module _ (theory : Theory) (name : List ℕ) (ty codomain : HolType) (body argum
   stated_is : conversion ≡ nameless_equation codomain (app closed (image argument)) (fill (image argument) (close name ty (image body)))
   stated_is = λ i. nameless_equation (nameless_type-is (image redex) [] codomain (image-typed redex codomain redex_typed) i) (redex_image i) (fill (image argument) (close name ty (image body)))
 
-  conversion-room : list_all is_roomy (conversion ∷ []) ≡ true → list_all nameless_within_limits (conversion ∷ []) ≡ true
-  conversion-room roomy =
-      both (nameless_within_limits conversion) true
-      (sized-within 1000 5000 conversion (leaves_room conversion (first_of_both (is_roomy conversion) true roomy)).sized (omega arith) (omega arith)) refl
+  -- what is on the way to it, and it, are within the limits where the redex and it leave room
+  conversion-fits : list_all is_roomy (image redex ∷ conversion ∷ []) ≡ true → conversion_fits name ty codomain body argument ≡ true
+  conversion-fits roomy =
+      let redex_roomy = first_of_both (is_roomy (image redex)) (list_all is_roomy (conversion ∷ [])) roomy in
+      let conversion_roomy = first_of_both (is_roomy conversion) true (second_of_both (is_roomy (image redex)) (list_all is_roomy (conversion ∷ [])) roomy) in
+      let first : nameless_within_limits (app closed (free name ty)) ≡ true = ap nameless_within_limits (sym trivial_image) ∙ trivial-within redex_roomy in
+      let second = nameless_within_limits (nameless_equation codomain (app closed (free name ty)) (image body)) in
+      let third = nameless_within_limits (spec.conversion name ty codomain body argument) in
+      let last : third ≡ true =
+      ap nameless_within_limits (sym stated_is)
+      ∙ sized-within 1000 5000 conversion (leaves_room conversion conversion_roomy).sized (omega arith) (omega arith) in
+      both (nameless_within_limits (app closed (free name ty))) (second && (third && true)) first
+      (both second (third && true) (conversion-within redex_roomy) (both third true last refl))
 
-  pub beta_conv-stated : (result : Result Recorded Fault) → first_unknown theory redex ≡ None → (theta : List (NamedTerm × NamedTerm)) → theta ≡ (argument, variable name ty) ∷ []
-      → DerivesInstance result [] (put_all theta (nameless_equation codomain (app closed (free name ty)) (image body)))
+  pub beta_conv-answers : (result : Result Recorded Fault) → first_unknown theory redex ≡ None
+      → DerivesIf (conversion_fits name ty codomain body argument) result [] (spec.conversion name ty codomain body argument)
       → AnswersStated (theorem_in result) (image redex ∷ []) (beta_converted_outcome theory redex)
-  beta_conv-stated result none theta theta_is derives =
-      let is : put_all theta (nameless_equation codomain (app closed (free name ty)) (image body)) ≡ conversion =
-      ap (λ (l : List (NamedTerm × NamedTerm)). put_all l (nameless_equation codomain (app closed (free name ty)) (image body))) theta_is
-      ∙ put-redex argument name ty codomain body body_typed ∙ sym stated_is in
-      let shown : DerivesInstance result [] conversion = subst (λ (t : Nameless). DerivesInstance result [] t) is derives in
-      let roomy = derives-where (list_all nameless_within_limits (conversion ∷ [])) (list_all is_roomy (conversion ∷ [])) result [] conversion conversion-room shown in
+  beta_conv-answers result none derives =
+      let small : List Nameless = image redex ∷ conversion ∷ [] in
+      let fits = conversion_fits name ty codomain body argument in
+      let shown : DerivesIf fits result [] conversion = subst (λ (t : Nameless). DerivesIf fits result [] t) (sym stated_is) derives in
+      let roomy = derives-where fits (list_all is_roomy small) result [] conversion conversion-fits shown in
       subst (λ (o : Result Stated Fault). AnswersStated (theorem_in result) (image redex ∷ []) o) (sym (outcome_is none))
-      (answers-stated result (image redex ∷ []) (conversion ∷ []) [] conversion converted roomy (record { to = λ x m. m; back = λ x m. m }) (concludes_of result shown)
-      (λ t m. elim m [ inl e ↦ inr (inl e) | inr none_there ↦ absurd none_there ]))
+      (answers-stated result (image redex ∷ []) small [] conversion converted roomy (record { to = λ x m. m; back = λ x m. m }) (concludes_of result shown) (λ t m. m))
     where
-      concludes_of : (result : Result Recorded Fault) → DerivesInstance result [] conversion → IfOk result (λ made. image made.theorem.conclusion ≡ conversion)
+      concludes_of : (result : Result Recorded Fault) → DerivesIf (conversion_fits name ty codomain body argument) result [] conversion
+          → IfOk result (λ made. image made.theorem.conclusion ≡ conversion)
       concludes_of (Ok made) shown = shown.concludes
       concludes_of (Err fault) shown = tt
 

@@ -20,6 +20,7 @@ ghost use Rattle.hol_equal.specs.Sequents.{Shows, DerivesIf};
 ghost use Rattle.hol_equal.specs.Inferred.{Infers};
 ghost use Rattle.hol_equal.specs.Conversions.{beta_converted_outcome};
 
+use crate::conversion::converted_known;
 use crate::steps::{self, conclusion_of};
 use hol_alpha::aconv;
 use hol_journal::{Rec, Recorder};
@@ -247,7 +248,6 @@ fn beta_converted(recorder: &mut Recorder, term: &Term) -> Result<Rec, Fault>
     ensures continues { Continues recorder.old recorder.new result }
     ensures outcome { AnswersStated (theorem_in result) (image term.now ∷ []) (beta_converted_outcome recorder.old.theory term.now) }
 {
-    let alloc = recorder.alloc();
     let _type = term.ty();
     let Some(redex) = redex_parts(term) else {
         return Err(Fault::BadShape);
@@ -256,11 +256,7 @@ fn beta_converted(recorder: &mut Recorder, term: &Term) -> Result<Rec, Fault>
         Some(fault) => return Err(fault),
         None => {}
     }
-    let trivial = Term::mk_comb(alloc, redex.function, redex.binder)?;
-    let converted = steps::beta_known(recorder, &trivial)?;
-    let argument = redex.argument.copy(alloc)?;
-    let binder = redex.binder.copy(alloc)?;
-    steps::inst_known(recorder, &[(argument, binder)], &converted)
+    converted_known(recorder, redex.function, redex.binder, redex.argument)
 }
 
 /// BETA_CONV: for `(\x. b) a` the theorem `(\x. b) a = b[a/x]`, the left side as it is. Refused where the term is no
