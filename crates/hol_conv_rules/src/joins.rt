@@ -40,7 +40,9 @@ pub fn trans_known(library: &mut Library, first: &Rec, second: &Rec) -> Result<R
 {
     let _first = conclusion_of(&library.recorder, first);
     let _second = conclusion_of(&library.recorder, second);
-    library.recorder.infer_known(Inference::Trans(first, second))
+    library
+        .recorder
+        .infer_known(Inference::Trans(first, second))
 }
 
 /// MK_COMB: from `f = g` and `x = y`, `f x = g y`. Refused as the kernel's rule.
