@@ -5,7 +5,6 @@ use Rattle.hol_model.proofs.Logic.Earlier.{earlier-same}
 use Rattle.hol_journal.specs.Journal.{Journal, Recorded, IsMade}
 use Rattle.hol_journal.specs.Growth.{IsGrown, Continues, IsHeld}
 use Rattle.hol_journal.proofs.GrowthLemmas.{journals-grow}
-use Rattle.hol_equal.proofs.StepLemmas.{continues}
 use Rattle.hol_theorem_library.specs.Library.{IsLibrary, IsContinued}
 use Rattle.hol_theorem_library.specs.declared.library.Library.{Library}
 use Rattle.hol_theorem_library.proofs.Continuing.{libraries-continue}
