@@ -14,13 +14,13 @@ use Rattle.hol_bool.proofs.ConjunctionAnswers.{conj_equation}
 use Rattle.hol_bool.proofs.PreludeSteps.{where-no-room}
 use Rattle.hol_bool.proofs.RoomLemmas.{fits-within}
 use Rattle.hol_bool.proofs.ImplicationAnswers.{disch-both-fits, disch-conj-fits, disch-absorbed-fits, absorbed-set}
-use Rattle.hol_bool.proofs.implication_rules.conj_absorption.Goals as goal
+use Rattle.hol_bool.proofs.implication_rules.absorption.Goals as goal
 
 pub returns-in_err-joined-clause-derives : goal.returns-in_err-joined-clause-derives
 returns-in_err-joined-clause-derives c h q room shown fits =
     let p = image c.args.p.now in
     rw (passed_on c.from_residual-in_err-joined.result c.in_err-joined.field-0.0 c.from_residual-in_err-joined.ensures.1)
-    (c.in_err-joined.ensures.derives (p ∷ []) h p q room (c.in_ok-assumed.ensures.gives c.requires.formula.known) shown (disch-conj-fits room p q fits))
+    (c.in_err-joined.ensures.conjoins.1 (p ∷ []) h p q room (c.in_ok-assumed.ensures.gives c.requires.formula.known) shown (disch-conj-fits room p q fits))
 
 pub conclusion_of-q-requires : goal.conclusion_of-q-requires
 conclusion_of-q-requires c =
@@ -40,7 +40,7 @@ deduct_antisym_known-requires-clause-fits c =
     let premise = c.args.premise.now.theorem in
     let q = image premise.conclusion in
     let conj = nameless.conjunction p q in
-    let joined = c.in_ok-joined.ensures.derives (p ∷ []) (images premise) p q false (c.in_ok-assumed.ensures.gives c.requires.formula.known) (shows-itself premise)
+    let joined = c.in_ok-joined.ensures.conjoins.1 (p ∷ []) (images premise) p q false (c.in_ok-assumed.ensures.gives c.requires.formula.known) (shows-itself premise)
     (where-no-room (conj_equation p q)) in
     let q_is : image c.conclusion_of-q.result.now ≡ q = ap image c.conclusion_of-q.ensures.value in
     let first : Shows c.in_ok-first.first.theorem (conj ∷ []) p =
@@ -53,7 +53,7 @@ returns-clause-derives c h q room shown fits =
     let p = image c.args.p.now in
     let conj = nameless.conjunction p q in
     let whole = nameless_equation bool_type conj p in
-    let joined = c.in_ok-joined.ensures.derives (p ∷ []) h p q room (c.in_ok-assumed.ensures.gives c.requires.formula.known) shown (disch-conj-fits room p q fits) in
+    let joined = c.in_ok-joined.ensures.conjoins.1 (p ∷ []) h p q room (c.in_ok-assumed.ensures.gives c.requires.formula.known) shown (disch-conj-fits room p q fits) in
     let q_is : image c.conclusion_of-q.result.now ≡ q = ap image c.conclusion_of-q.ensures.value ∙ shown.concludes in
     let first : Shows c.in_ok-first.first.theorem (conj ∷ []) p =
     subst (λ (t : Nameless). Shows c.in_ok-first.first.theorem (nameless.conjunction p t ∷ []) p) q_is
