@@ -38,9 +38,7 @@ fn change_at(
     let place = Place { passed, number };
     match terms.shape(number) {
         TermShape::Free(name, ty) => change_free(terms, types, change, passed, number, name, ty),
-        TermShape::Constant(name, ty) => {
-            change_constant(terms, types, change, passed, number, name, ty)
-        }
+        TermShape::Constant(name, ty) => change_constant(terms, types, change, name, ty),
         TermShape::Bound(index) => Ok(change_bound(terms, change, passed, number, index)),
         TermShape::Application(function, argument) => {
             if let Some(new) = recall(parts, place) {
