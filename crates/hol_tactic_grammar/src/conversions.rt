@@ -10,10 +10,10 @@ ghost use Rattle.hol_tactic_grammar.specs.declared.conversions.Open.TheVariants.
 ghost use Rattle.hol_tactic_grammar.specs.Tokens.{AreTokens, IsAt};
 ghost use Rattle.hol_tactic_grammar.specs.ConversionWords.{conversional_of, single_word};
 ghost use Rattle.hol_tactic_grammar.specs.Conversions.{Means, ReadsUnit, ReadsConversion};
-ghost use Rattle.hol_tactic_grammar.specs.OpenConversions.{IsWanted, IsRead, IsReadChoice, Leads, Enters};
+ghost use Rattle.hol_tactic_grammar.specs.OpenConversions.{IsRead, IsReadChoice, Leads, Begins, Enters};
 
 use crate::conversion_words::{Single, prefix_named, single_named};
-use crate::tokens::{is_mark, is_word, name_at, read_name};
+use crate::tokens::{Read, is_mark, is_word, name_at, read_name};
 use hol_model::{EXPRESSION_NESTING_LIMIT, Symbol};
 use hol_syntax_grammar::{ReadError, Token};
 use hol_tactic_exprs::{Conv, Prefix};
@@ -40,7 +40,7 @@ enum Step {
 }
 
 // The first, or all of them by ORELSEC.
-fn either(alloc: Global, first: Conv, others: Vec<Conv>) -> Result<Conv, ReadError>
+fn either(alloc: Global, first: Conv, others: Vec<Conv>) -> Read<Conv>
     ensures { Means result (either (conversion_of first) (conversions_of others.items)) }
 {
     if others.is_empty() {
@@ -53,7 +53,7 @@ fn either(alloc: Global, first: Conv, others: Vec<Conv>) -> Result<Conv, ReadErr
 }
 
 // The first, or all of them by THENC.
-fn in_order(alloc: Global, first: Conv, others: Vec<Conv>) -> Result<Conv, ReadError>
+fn in_order(alloc: Global, first: Conv, others: Vec<Conv>) -> Read<Conv>
     ensures { Means result (in_order (conversion_of first) (conversions_of others.items)) }
 {
     if others.is_empty() {
@@ -66,12 +66,7 @@ fn in_order(alloc: Global, first: Conv, others: Vec<Conv>) -> Result<Conv, ReadE
 }
 
 // A conversion without parts.
-fn read_leaf(
-    alloc: Global,
-    tokens: &[Token<'_>],
-    at: usize,
-    single: Single,
-) -> Result<(Conv, usize), ReadError>
+fn read_leaf(alloc: Global, tokens: &[Token<'_>], at: usize, single: Single) -> Read<(Conv, usize)>
     requires tokens { AreTokens (tokens_of tokens.now) }
     requires front { IsAt (Name (single_word single)) at tokens.now }
     ensures { (room : ℕ) → ReadsUnit result at room tokens.now }
@@ -95,7 +90,7 @@ fn parted(mut parts: Vec<Conv>) -> (Conv, Vec<Conv>)
 }
 
 // Opens a place, unless as many are open as may be.
-fn enter(places: &mut Vec<Open>, place: Open, limit: usize) -> Result<(), ReadError>
+fn enter(places: &mut Vec<Open>, place: Open, limit: usize) -> Read<()>
     ensures { Enters result place limit (reverse places.old.items) (reverse places.new.items) }
 {
     if places.len() >= limit {
@@ -112,10 +107,9 @@ fn begin_prefixed(
     at: usize,
     prefix: Prefix,
     limit: usize,
-) -> Result<Step, ReadError>
+) -> Read<Step>
     requires { IsAt (Name (conversional_word (conversional_of prefix))) at tokens.now }
-    ensures { (start : ℕ) → IsWanted (reverse places.old.items) at start limit tokens.now
-        → Leads result at (length (reverse places.old.items)) (reverse places.new.items) start limit tokens.now }
+    ensures { Begins result (reverse places.old.items) (reverse places.new.items) at limit tokens.now }
 {
     enter(places, Open::Prefixed(prefix), limit)?;
     Ok(Step::Begin(at + 1))
@@ -128,10 +122,9 @@ fn begin_enclosed(
     places: &mut Vec<Open>,
     at: usize,
     limit: usize,
-) -> Result<Step, ReadError>
+) -> Read<Step>
     requires { IsAt (Mark OpenParenthesis) at tokens.now }
-    ensures { (start : ℕ) → IsWanted (reverse places.old.items) at start limit tokens.now
-        → Leads result at (length (reverse places.old.items)) (reverse places.new.items) start limit tokens.now }
+    ensures { Begins result (reverse places.old.items) (reverse places.new.items) at limit tokens.now }
 {
     let place = Open::Enclosed {
         parts: Vec::new(alloc),
@@ -148,10 +141,9 @@ fn begin(
     places: &mut Vec<Open>,
     at: usize,
     limit: usize,
-) -> Result<Step, ReadError>
+) -> Read<Step>
     requires { AreTokens (tokens_of tokens.now) }
-    ensures { (start : ℕ) → IsWanted (reverse places.old.items) at start limit tokens.now
-        → Leads result at (length (reverse places.old.items)) (reverse places.new.items) start limit tokens.now }
+    ensures { Begins result (reverse places.old.items) (reverse places.new.items) at limit tokens.now }
 {
     if is_mark(tokens, at, Symbol::OpenParenthesis) {
         return begin_enclosed(alloc, tokens, places, at, limit);
@@ -177,7 +169,7 @@ fn behind_choice(
     mut parts: Vec<Conv>,
     choice: Conv,
     next: usize,
-) -> Result<Step, ReadError>
+) -> Read<Step>
     requires { AreTokens (tokens_of tokens.now) }
     ensures { (start limit : ℕ) → IsReadChoice parts.items (reverse places.old.items) choice next start limit tokens.now
         → Leads result next (length (reverse places.old.items) + 1) (reverse places.new.items) start limit tokens.now }
@@ -207,7 +199,7 @@ fn behind_unit(
     mut units: Vec<Conv>,
     unit: Conv,
     next: usize,
-) -> Result<Step, ReadError>
+) -> Read<Step>
     requires { AreTokens (tokens_of tokens.now) }
     ensures { (start limit : ℕ) → IsRead (Enclosed parts units ∷ reverse places.old.items) unit next start limit tokens.now
         → Leads result next (length (reverse places.old.items) + 1) (reverse places.new.items) start limit tokens.now }
@@ -229,7 +221,7 @@ fn close(
     places: &mut Vec<Open>,
     unit: Conv,
     next: usize,
-) -> Result<Step, ReadError>
+) -> Read<Step>
     requires { AreTokens (tokens_of tokens.now) }
     ensures { (start limit : ℕ) → IsRead (reverse places.old.items) unit next start limit tokens.now
         → Leads result next (length (reverse places.old.items)) (reverse places.new.items) start limit tokens.now }
@@ -247,12 +239,7 @@ fn close(
 }
 
 /// What a conversional may stand before, at a place. At most as many parentheses and prefixes as there is room for nest in it.
-pub fn read_unit(
-    alloc: Global,
-    tokens: &[Token<'_>],
-    at: usize,
-    room: usize,
-) -> Result<(Conv, usize), ReadError>
+pub fn read_unit(alloc: Global, tokens: &[Token<'_>], at: usize, room: usize) -> Read<(Conv, usize)>
     requires { AreTokens (tokens_of tokens.now) }
     ensures { ReadsUnit result at room tokens.now }
 {

@@ -14,13 +14,14 @@ ghost use Rattle.hol_tactic_grammar.specs.Tactics.{ReadsNames, ReadsUnit};
 use crate::conversions::read_unit;
 use crate::quotes::read_quote;
 use crate::tactic_words::{Named, Plain, Quoted};
-use crate::tokens::{is_mark, read_name};
+use crate::tactics::Refiner;
+use crate::tokens::{Read, is_mark, read_name};
 use hol_model::Symbol;
 use hol_syntax_grammar::{ReadError, TermStep, Token};
 use hol_tactic_exprs::{Leaf, Tac};
 use std::alloc::Global;
 
-fn plain_tactic<'a>(tactic: Plain) -> Tac<Vec<TermStep<'a>>>
+fn plain_tactic<'a>(tactic: Plain) -> Refiner<'a>
     ensures { expression_here result ≡ simple (plain (plain_of tactic)) }
 {
     match tactic {
@@ -38,7 +39,7 @@ fn plain_tactic<'a>(tactic: Plain) -> Tac<Vec<TermStep<'a>>>
     }
 }
 
-fn named_tactic<'a>(tactic: Named, name: String) -> Tac<Vec<TermStep<'a>>>
+fn named_tactic<'a>(tactic: Named, name: String) -> Refiner<'a>
     ensures { expression_here result ≡ simple (by_name (named_of tactic) (string_bytes name)) }
 {
     match tactic {
@@ -51,7 +52,7 @@ fn named_tactic<'a>(tactic: Named, name: String) -> Tac<Vec<TermStep<'a>>>
     }
 }
 
-fn quoted_tactic<'a>(tactic: Quoted, steps: Vec<TermStep<'a>>) -> Tac<Vec<TermStep<'a>>>
+fn quoted_tactic<'a>(tactic: Quoted, steps: Vec<TermStep<'a>>) -> Refiner<'a>
     ensures { expression_here result ≡ simple (by_quote (quoted_of tactic) (flat_steps_of steps.entry.items)) }
 {
     match tactic {
@@ -61,11 +62,7 @@ fn quoted_tactic<'a>(tactic: Quoted, steps: Vec<TermStep<'a>>) -> Tac<Vec<TermSt
 }
 
 /// A refiner without arguments.
-pub fn read_plain<'a>(
-    tokens: &[Token<'a>],
-    at: usize,
-    tactic: Plain,
-) -> Result<(Tac<Vec<TermStep<'a>>>, usize), ReadError>
+pub fn read_plain<'a>(tokens: &[Token<'a>], at: usize, tactic: Plain) -> Read<(Refiner<'a>, usize)>
     requires { IsAt (Name (plain_word (plain_of tactic))) at tokens.now }
     ensures { (room : ℕ) → ReadsUnit result at room tokens.now }
 {
@@ -78,7 +75,7 @@ pub fn read_by_name<'a>(
     tokens: &[Token<'a>],
     at: usize,
     tactic: Named,
-) -> Result<(Tac<Vec<TermStep<'a>>>, usize), ReadError>
+) -> Read<(Refiner<'a>, usize)>
     requires tokens { AreTokens (tokens_of tokens.now) }
     requires front { IsAt (Name (named_word (named_of tactic))) at tokens.now }
     ensures { (room : ℕ) → ReadsUnit result at room tokens.now }
@@ -93,7 +90,7 @@ pub fn read_by_quote<'a>(
     tokens: &[Token<'a>],
     at: usize,
     tactic: Quoted,
-) -> Result<(Tac<Vec<TermStep<'a>>>, usize), ReadError>
+) -> Read<(Refiner<'a>, usize)>
     requires { IsAt (Name (quoted_word (quoted_of tactic))) at tokens.now }
     ensures { (room : ℕ) → ReadsUnit result at room tokens.now }
 {
@@ -107,7 +104,7 @@ pub fn read_conv_tac<'a>(
     tokens: &[Token<'a>],
     at: usize,
     room: usize,
-) -> Result<(Tac<Vec<TermStep<'a>>>, usize), ReadError>
+) -> Read<(Refiner<'a>, usize)>
     requires tokens { AreTokens (tokens_of tokens.now) }
     requires front { IsAt (Name (other_word Conv)) at tokens.now }
     ensures { ReadsUnit result at room tokens.now }
@@ -117,11 +114,7 @@ pub fn read_conv_tac<'a>(
 }
 
 // The names of a list in brackets, and the place behind it.
-fn read_names(
-    alloc: Global,
-    tokens: &[Token<'_>],
-    at: usize,
-) -> Result<(Vec<String>, usize), ReadError>
+fn read_names(alloc: Global, tokens: &[Token<'_>], at: usize) -> Read<(Vec<String>, usize)>
     requires { AreTokens (tokens_of tokens.now) }
     ensures { ReadsNames result at tokens.now }
 {
@@ -152,7 +145,7 @@ pub fn read_rewrite_tac<'a>(
     tokens: &[Token<'a>],
     at: usize,
     room: usize,
-) -> Result<(Tac<Vec<TermStep<'a>>>, usize), ReadError>
+) -> Read<(Refiner<'a>, usize)>
     requires tokens { AreTokens (tokens_of tokens.now) }
     requires front { IsAt (Name (other_word Rewrite)) at tokens.now }
     ensures { ReadsUnit result at room tokens.now }
