@@ -1,16 +1,14 @@
 // Conversions, read from tokens: one loop over the places that are open around a unit.
 ghost use Rattle.std.specs.Prelude.{◌≡◌, ℕ, ◌+◌, ◌<◌, ◌∷◌, length, reverse};
-ghost use Rattle.hol_model.specs.declared.symbol.Symbol.TheVariants.{OpenParenthesis};
-ghost use Rattle.hol_model.specs.Texts.Token.{Name, Mark};
-ghost use Rattle.hol_model_sessions.specs.ConversionGrammar.{conversional_word};
+ghost use Rattle.hol_model.specs.Texts.Token.{Name};
 ghost use Rattle.hol_model_sessions.specs.SessionTools.{in_order, either};
 ghost use Rattle.hol_tactic_exprs.specs.Expressions.{conversion_of, conversions_of};
 ghost use Rattle.hol_syntax_grammar.specs.Views.{tokens_of};
 ghost use Rattle.hol_tactic_grammar.specs.declared.conversions.Open.TheVariants.{Enclosed};
 ghost use Rattle.hol_tactic_grammar.specs.Tokens.{AreTokens, IsAt};
-ghost use Rattle.hol_tactic_grammar.specs.ConversionWords.{conversional_of, single_word};
+ghost use Rattle.hol_tactic_grammar.specs.ConversionWords.{single_word};
 ghost use Rattle.hol_tactic_grammar.specs.Conversions.{Means, ReadsUnit, ReadsConversion};
-ghost use Rattle.hol_tactic_grammar.specs.OpenConversions.{IsRead, IsReadChoice, Leads, Begins, Enters};
+ghost use Rattle.hol_tactic_grammar.specs.OpenConversions.{IsWanted, IsRead, IsReadChoice, Leads, Enters};
 
 use crate::conversion_words::{Single, prefix_named, single_named};
 use crate::tokens::{Read, is_mark, is_word, name_at, read_name};
@@ -89,49 +87,15 @@ fn parted(mut parts: Vec<Conv>) -> (Conv, Vec<Conv>)
     (first, parts)
 }
 
-// Opens a place, unless as many are open as may be.
-fn enter(places: &mut Vec<Open>, place: Open, limit: usize) -> Read<()>
-    ensures { Enters result place limit (reverse places.old.items) (reverse places.new.items) }
+// Opens a place, behind whose front a unit is wanted, unless as many are open as may be.
+fn enter(places: &mut Vec<Open>, place: Open, next: usize, limit: usize) -> Read<Step>
+    ensures { Enters result place next limit (reverse places.old.items) (reverse places.new.items) }
 {
     if places.len() >= limit {
         return Err(ReadError::Syntax);
     }
     places.push(place)?;
-    Ok(())
-}
-
-// Goes behind a conversional.
-fn begin_prefixed(
-    tokens: &[Token<'_>],
-    places: &mut Vec<Open>,
-    at: usize,
-    prefix: Prefix,
-    limit: usize,
-) -> Read<Step>
-    requires { IsAt (Name (conversional_word (conversional_of prefix))) at tokens.now }
-    ensures { Begins result (reverse places.old.items) (reverse places.new.items) at limit tokens.now }
-{
-    enter(places, Open::Prefixed(prefix), limit)?;
-    Ok(Step::Begin(at + 1))
-}
-
-// Goes into parentheses.
-fn begin_enclosed(
-    alloc: Global,
-    tokens: &[Token<'_>],
-    places: &mut Vec<Open>,
-    at: usize,
-    limit: usize,
-) -> Read<Step>
-    requires { IsAt (Mark OpenParenthesis) at tokens.now }
-    ensures { Begins result (reverse places.old.items) (reverse places.new.items) at limit tokens.now }
-{
-    let place = Open::Enclosed {
-        parts: Vec::new(alloc),
-        units: Vec::new(alloc),
-    };
-    enter(places, place, limit)?;
-    Ok(Step::Begin(at + 1))
+    Ok(Step::Begin(next))
 }
 
 // Reads a unit without parts, or goes into one with parts.
@@ -143,16 +107,21 @@ fn begin(
     limit: usize,
 ) -> Read<Step>
     requires { AreTokens (tokens_of tokens.now) }
-    ensures { Begins result (reverse places.old.items) (reverse places.new.items) at limit tokens.now }
+    ensures { (start : ℕ) → IsWanted (reverse places.old.items) at start limit tokens.now
+        → Leads result at (length (reverse places.old.items)) (reverse places.new.items) start limit tokens.now }
 {
     if is_mark(tokens, at, Symbol::OpenParenthesis) {
-        return begin_enclosed(alloc, tokens, places, at, limit);
+        let place = Open::Enclosed {
+            parts: Vec::new(alloc),
+            units: Vec::new(alloc),
+        };
+        return enter(places, place, at + 1, limit);
     }
     let Some(word) = name_at(tokens, at) else {
         return Err(ReadError::Syntax);
     };
     if let Some(prefix) = prefix_named(word) {
-        return begin_prefixed(tokens, places, at, prefix, limit);
+        return enter(places, Open::Prefixed(prefix), at + 1, limit);
     }
     let Some(single) = single_named(word) else {
         return Err(ReadError::Syntax);
