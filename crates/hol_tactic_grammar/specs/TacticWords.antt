@@ -11,9 +11,11 @@ use Rattle.hol_tactic_grammar.specs.declared.tactic_words.Named.TheVariants.{Acc
 use Rattle.hol_tactic_grammar.specs.declared.tactic_words.Quoted.{Quoted}
 use Rattle.hol_tactic_grammar.specs.declared.tactic_words.Quoted.TheVariants.{Exists, Undisch}
 use Rattle.hol_tactic_grammar.specs.declared.tactic_words.Other.{Other}
-use Rattle.hol_tactic_grammar.specs.declared.tactic_words.Other.TheVariants.{Repeat, Try, Conv, Rewrite}
+use Rattle.hol_tactic_grammar.specs.declared.tactic_words.Other.TheVariants.{Conv, Rewrite}
 use Rattle.hol_tactic_grammar.specs.declared.tactic_words.Start.{Start}
-use Rattle.hol_tactic_grammar.specs.declared.tactic_words.Start.TheVariants.{OfPlain, OfNamed, OfQuoted, OfOther}
+use Rattle.hol_tactic_grammar.specs.declared.tactic_words.Start.TheVariants.{OfPrefix, OfPlain, OfNamed, OfQuoted, OfOther}
+use Rattle.hol_tactic_grammar.specs.declared.tactics.Prefix.{Prefix}
+use Rattle.hol_tactic_grammar.specs.declared.tactics.Prefix.TheVariants.{Repeat, Try}
 
 abbrev pub plain_of : Plain → PlainTactic
 plain_of All = grammar.AllTac
@@ -40,13 +42,16 @@ abbrev pub quoted_of : Quoted → QuotedTactic
 quoted_of Exists = grammar.ExistsTac
 quoted_of Undisch = grammar.UndischTac
 
+abbrev pub prefix_word : Prefix → List ℕ
+prefix_word Repeat = codes "REPEAT"
+prefix_word Try = codes "TRY"
+
 abbrev pub other_word : Other → List ℕ
-other_word Repeat = codes "REPEAT"
-other_word Try = codes "TRY"
 other_word Conv = codes "CONV_TAC"
 other_word Rewrite = codes "REWRITE_TAC"
 
 abbrev pub start_word : Start → List ℕ
+start_word (OfPrefix prefix) = prefix_word prefix
 start_word (OfPlain tactic) = plain_word (plain_of tactic)
 start_word (OfNamed tactic) = named_word (named_of tactic)
 start_word (OfQuoted tactic) = quoted_word (quoted_of tactic)

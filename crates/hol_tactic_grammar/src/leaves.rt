@@ -7,13 +7,12 @@ ghost use Rattle.hol_syntax_grammar.specs.Steps.{flat_steps_of};
 ghost use Rattle.hol_syntax_grammar.specs.Views.{tokens_of};
 ghost use Rattle.hol_tactic_grammar.specs.Tokens.{AreTokens, IsAt};
 ghost use Rattle.hol_tactic_grammar.specs.TacticWords.{plain_of, named_of, quoted_of, other_word};
-ghost use Rattle.hol_tactic_grammar.specs.declared.tactic_words.Other.TheVariants.{Conv, Rewrite};
 ghost use Rattle.hol_tactic_grammar.specs.Expressions.{simple, plain, by_name, by_quote, expression_here};
 ghost use Rattle.hol_tactic_grammar.specs.Tactics.{ReadsNames, ReadsUnit};
 
 use crate::conversions::read_unit;
 use crate::quotes::read_quote;
-use crate::tactic_words::{Named, Plain, Quoted};
+use crate::tactic_words::{Named, Other, Plain, Quoted};
 use crate::tactics::Refiner;
 use crate::tokens::{Read, is_mark, read_name};
 use hol_model::Symbol;
@@ -98,21 +97,6 @@ pub fn read_by_quote<'a>(
     Ok((quoted_tactic(tactic, steps), next))
 }
 
-/// CONV_TAC and the conversion behind it.
-pub fn read_conv_tac<'a>(
-    alloc: Global,
-    tokens: &[Token<'a>],
-    at: usize,
-    room: usize,
-) -> Read<(Refiner<'a>, usize)>
-    requires tokens { AreTokens (tokens_of tokens.now) }
-    requires front { IsAt (Name (other_word Conv)) at tokens.now }
-    ensures { ReadsUnit result at room tokens.now }
-{
-    let (conv, next) = read_unit(alloc, tokens, at + 1, room)?;
-    Ok((Tac::Leaf(Leaf::Conv(conv)), next))
-}
-
 // The names of a list in brackets, and the place behind it.
 fn read_names(alloc: Global, tokens: &[Token<'_>], at: usize) -> Read<(Vec<String>, usize)>
     requires { AreTokens (tokens_of tokens.now) }
@@ -139,20 +123,29 @@ fn read_names(alloc: Global, tokens: &[Token<'_>], at: usize) -> Read<(Vec<Strin
     Ok((names, next + 1))
 }
 
-/// REWRITE_TAC and the names behind it.
-pub fn read_rewrite_tac<'a>(
+/// CONV_TAC and the conversion behind it, or REWRITE_TAC and the names behind it.
+pub fn read_other<'a>(
     alloc: Global,
     tokens: &[Token<'a>],
     at: usize,
+    other: Other,
     room: usize,
 ) -> Read<(Refiner<'a>, usize)>
     requires tokens { AreTokens (tokens_of tokens.now) }
-    requires front { IsAt (Name (other_word Rewrite)) at tokens.now }
+    requires front { IsAt (Name (other_word other)) at tokens.now }
     ensures { ReadsUnit result at room tokens.now }
 {
-    if room == 0 {
-        return Err(ReadError::Syntax);
+    match other {
+        Other::Conv => {
+            let (conv, next) = read_unit(alloc, tokens, at + 1, room)?;
+            Ok((Tac::Leaf(Leaf::Conv(conv)), next))
+        }
+        Other::Rewrite => {
+            if room == 0 {
+                return Err(ReadError::Syntax);
+            }
+            let (names, next) = read_names(alloc, tokens, at + 1)?;
+            Ok((Tac::Leaf(Leaf::Rewrite(names)), next))
+        }
     }
-    let (names, next) = read_names(alloc, tokens, at + 1)?;
-    Ok((Tac::Leaf(Leaf::Rewrite(names)), next))
 }

@@ -8,8 +8,8 @@ ghost use Rattle.hol_tactic_grammar.specs.Expressions.{expression_here};
 ghost use Rattle.hol_tactic_grammar.specs.Tactics.{ReadsTactic};
 ghost use Rattle.hol_tactic_grammar.specs.OpenTactics.{WantsChoice, WantsChain, HasUnit, HasChoiceWhole, HasWhole, opens_of, IsReading, turns_left, Goes, Waits, Nests, Closes, IsListFrontAt, Adds, AddsElement, IsChainWith, unit_read, unit_made};
 
-use crate::leaves::{read_by_name, read_by_quote, read_conv_tac, read_plain, read_rewrite_tac};
-use crate::tactic_words::{Other, Start, start_named};
+use crate::leaves::{read_by_name, read_by_quote, read_other, read_plain};
+use crate::tactic_words::{Start, start_named};
 use crate::tactics::{Joint, Prefix, Refiner, or_else, prefixed, then_on};
 use crate::tokens::{Read, is_mark, is_word, name_at};
 use hol_model::{EXPRESSION_NESTING_LIMIT, Symbol};
@@ -110,17 +110,11 @@ impl<'a> Reader<'a> {
             return Err(ReadError::Syntax);
         };
         match start {
-            Start::OfOther(Other::Repeat) => self.nest(Open::Prefixed(Prefix::Repeat), at + 1),
-            Start::OfOther(Other::Try) => self.nest(Open::Prefixed(Prefix::Try), at + 1),
+            Start::OfPrefix(prefix) => self.nest(Open::Prefixed(prefix), at + 1),
             Start::OfPlain(tactic) => read_up_to(read_plain(tokens, at, tactic)),
             Start::OfNamed(tactic) => read_up_to(read_by_name(alloc, tokens, at, tactic)),
             Start::OfQuoted(tactic) => read_up_to(read_by_quote(alloc, tokens, at, tactic)),
-            Start::OfOther(Other::Conv) => {
-                read_up_to(read_conv_tac(alloc, tokens, at, self.room))
-            }
-            Start::OfOther(Other::Rewrite) => {
-                read_up_to(read_rewrite_tac(alloc, tokens, at, self.room))
-            }
+            Start::OfOther(other) => { read_up_to(read_other(alloc, tokens, at, other, self.room)) }
         }
     }
 

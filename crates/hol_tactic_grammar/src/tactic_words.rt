@@ -2,6 +2,7 @@
 ghost use Rattle.std.specs.Prelude.{◌≡◌};
 ghost use Rattle.hol_tactic_grammar.specs.TacticWords.{start_of_word};
 
+use crate::tactics::Prefix;
 use crate::words::meaning_in;
 
 /// A refiner without arguments.
@@ -38,11 +39,9 @@ pub enum Quoted {
     Undisch,
 }
 
-/// What stands before a refiner, and the refiners with other arguments.
+/// A refiner that takes a conversion or names.
 #[derive(Clone, Copy, Drop)]
 pub enum Other {
-    Repeat,
-    Try,
     Conv,
     Rewrite,
 }
@@ -50,6 +49,7 @@ pub enum Other {
 /// What a word begins.
 #[derive(Clone, Copy, Drop)]
 pub enum Start {
+    OfPrefix(Prefix),
     OfPlain(Plain),
     OfNamed(Named),
     OfQuoted(Quoted),
@@ -77,8 +77,8 @@ const STARTS: [(&str, Start); 23] = [
     ("HOST", Start::OfNamed(Named::Host)),
     ("EXISTS_TAC", Start::OfQuoted(Quoted::Exists)),
     ("UNDISCH_TAC", Start::OfQuoted(Quoted::Undisch)),
-    ("REPEAT", Start::OfOther(Other::Repeat)),
-    ("TRY", Start::OfOther(Other::Try)),
+    ("REPEAT", Start::OfPrefix(Prefix::Repeat)),
+    ("TRY", Start::OfPrefix(Prefix::Try)),
     ("CONV_TAC", Start::OfOther(Other::Conv)),
     ("REWRITE_TAC", Start::OfOther(Other::Rewrite)),
 ];
