@@ -63,6 +63,19 @@ pub record BreaksAnswers (tools : Tools) (read : List ℕ) (written now : Option
   pub is_answered : IsAnswered tools read turns
   pub wrote : AppendsFront written now (text_of_turns turns)
 
+-- what is underway stays so
+abbrev pub GoesOn : Tools → List ℕ → Option (List ℕ) → Option (List ℕ) → Course → Course → Type 0
+GoesOn tools read before now old new = (written : Option (List ℕ)) → IsUnderway tools read written before old → IsUnderway tools read written now new
+
+-- what is underway breaks off within the answers to the bytes that were read
+abbrev pub BreaksOff : Tools → List ℕ → Option (List ℕ) → Option (List ℕ) → Course → Type 0
+BreaksOff tools read before now course = (written : Option (List ℕ)) → IsUnderway tools read written before course → BreaksAnswers tools read written now
+
+-- what was written then is a front of what a run writes, whatever bytes follow
+abbrev pub BreaksFront : Tools → List ℕ → Option (List ℕ) → Option (List ℕ) → Course → Type 0
+BreaksFront tools read before now course =
+    (written : Option (List ℕ)) (more : List ℕ) → IsUnderway tools read written before course → Breaks tools (read ++ more) written now
+
 -- No more is read: each command whose `;;` was read is answered, and nothing else is.
 pub record IsStopped (tools : Tools) (source : SourceUse) (left written now : Option (List ℕ)) (fault : Fault) : Type 0 where
   pub read : List ℕ

@@ -1,11 +1,11 @@
 // A run under way: the commands that were read are answered one after another.
-ghost use Rattle.std.specs.Prelude.{◌≡◌, ◌≤◌, ◌<◌, ◌-◌, ◌++◌, ◌∷◌, ℕ, List, [], Option, true, false, length, take, drop, OnOk, OnErr, IfOk, IfErr, IsErrOf};
+ghost use Rattle.std.specs.Prelude.{◌≡◌, ◌≤◌, ◌<◌, ◌-◌, ◌∷◌, ℕ, List, [], Option, true, false, length, take, drop, OnOk, OnErr, IfOk, IfErr, IsErrOf};
 ghost use Rattle.hol_model.specs.declared.fault.Fault.TheVariants.{Memory, WriteFault};
 ghost use Rattle.hol_model_sessions.specs.Script.{has_mark};
 ghost use Rattle.hol_script_manager.specs.Managers.{state_of, IsManager};
 ghost use Rattle.hol_script_manager.specs.Session.{session_tools};
 ghost use Rattle.hol_script.specs.Runs.{counts_of, names_of, Finishes, Breaks};
-ghost use Rattle.hol_script.specs.Courses.{IsBegun, IsWithin, IsUnderway, BreaksAnswers};
+ghost use Rattle.hol_script.specs.Courses.{IsBegun, IsWithin, IsUnderway, GoesOn, BreaksOff, BreaksFront};
 
 use crate::progress::Progress;
 use crate::writing::{write_answer, write_refusal};
@@ -61,13 +61,9 @@ impl Course {
         ensures within { OnOk result (IsWithin read.now self.new) }
         ensures further { IfOk result (λ answers. answers ≡ true → self.old.at < self.new.at) }
         ensures waits { IfOk result (λ answers. answers ≡ false → has_mark (drop self.new.at read.now) ≡ false) }
-        ensures goes_on { OnOk result ((written : Option (List ℕ)) → IsUnderway (session_tools (H.refiners host.now) (H.conversions host.now)) read.now written (W.contents writer.old) self.old
-            → IsUnderway (session_tools (H.refiners host.now) (H.conversions host.now)) read.now written (W.contents writer.new) self.new) }
-        ensures breaks { OnErr result ((written : Option (List ℕ)) → IsUnderway (session_tools (H.refiners host.now) (H.conversions host.now)) read.now written (W.contents writer.old) self.old
-            → BreaksAnswers (session_tools (H.refiners host.now) (H.conversions host.now)) read.now written (W.contents writer.new)) }
-        ensures front { OnErr result ((written : Option (List ℕ)) (more : List ℕ)
-            → IsUnderway (session_tools (H.refiners host.now) (H.conversions host.now)) read.now written (W.contents writer.old) self.old
-            → Breaks (session_tools (H.refiners host.now) (H.conversions host.now)) (read.now ++ more) written (W.contents writer.new)) }
+        ensures goes_on { OnOk result (GoesOn (session_tools (H.refiners host.now) (H.conversions host.now)) read.now (W.contents writer.old) (W.contents writer.new) self.old self.new) }
+        ensures breaks { OnErr result (BreaksOff (session_tools (H.refiners host.now) (H.conversions host.now)) read.now (W.contents writer.old) (W.contents writer.new) self.old) }
+        ensures front { OnErr result (BreaksFront (session_tools (H.refiners host.now) (H.conversions host.now)) read.now (W.contents writer.old) (W.contents writer.new) self.old) }
         ensures unfailed { OnOk result (W.has_failed writer.new ≡ false) }
         ensures failed { OnErr result (W.has_failed writer.new ≡ true) }
         ensures kinds { IfErr result (λ fault. fault ≡ WriteFault) }
@@ -99,13 +95,9 @@ impl Course {
         requires within { IsWithin read.now self.old }
         ensures within { OnOk result (IsWithin read.now self.new) }
         ensures waits { OnOk result (has_mark (drop self.new.at read.now) ≡ false) }
-        ensures goes_on { OnOk result ((written : Option (List ℕ)) → IsUnderway (session_tools (H.refiners host.now) (H.conversions host.now)) read.now written (W.contents writer.old) self.old
-            → IsUnderway (session_tools (H.refiners host.now) (H.conversions host.now)) read.now written (W.contents writer.new) self.new) }
-        ensures breaks { OnErr result ((written : Option (List ℕ)) → IsUnderway (session_tools (H.refiners host.now) (H.conversions host.now)) read.now written (W.contents writer.old) self.old
-            → BreaksAnswers (session_tools (H.refiners host.now) (H.conversions host.now)) read.now written (W.contents writer.new)) }
-        ensures front { OnErr result ((written : Option (List ℕ)) (more : List ℕ)
-            → IsUnderway (session_tools (H.refiners host.now) (H.conversions host.now)) read.now written (W.contents writer.old) self.old
-            → Breaks (session_tools (H.refiners host.now) (H.conversions host.now)) (read.now ++ more) written (W.contents writer.new)) }
+        ensures goes_on { OnOk result (GoesOn (session_tools (H.refiners host.now) (H.conversions host.now)) read.now (W.contents writer.old) (W.contents writer.new) self.old self.new) }
+        ensures breaks { OnErr result (BreaksOff (session_tools (H.refiners host.now) (H.conversions host.now)) read.now (W.contents writer.old) (W.contents writer.new) self.old) }
+        ensures front { OnErr result (BreaksFront (session_tools (H.refiners host.now) (H.conversions host.now)) read.now (W.contents writer.old) (W.contents writer.new) self.old) }
         ensures unfailed { OnOk result (W.has_failed writer.new ≡ false) }
         ensures failed { OnErr result (W.has_failed writer.new ≡ true) }
         ensures kinds { IfErr result (λ fault. fault ≡ WriteFault) }
@@ -132,13 +124,9 @@ impl Course {
         requires waits { has_mark (take (known - self.old.at) (drop self.old.at read.now)) ≡ false }
         ensures within { OnOk result (IsWithin read.now self.new) }
         ensures waits { OnOk result (has_mark (drop self.new.at read.now) ≡ false) }
-        ensures goes_on { OnOk result ((written : Option (List ℕ)) → IsUnderway (session_tools (H.refiners host.now) (H.conversions host.now)) read.now written (W.contents writer.old) self.old
-            → IsUnderway (session_tools (H.refiners host.now) (H.conversions host.now)) read.now written (W.contents writer.new) self.new) }
-        ensures breaks { OnErr result ((written : Option (List ℕ)) → IsUnderway (session_tools (H.refiners host.now) (H.conversions host.now)) read.now written (W.contents writer.old) self.old
-            → BreaksAnswers (session_tools (H.refiners host.now) (H.conversions host.now)) read.now written (W.contents writer.new)) }
-        ensures front { OnErr result ((written : Option (List ℕ)) (more : List ℕ)
-            → IsUnderway (session_tools (H.refiners host.now) (H.conversions host.now)) read.now written (W.contents writer.old) self.old
-            → Breaks (session_tools (H.refiners host.now) (H.conversions host.now)) (read.now ++ more) written (W.contents writer.new)) }
+        ensures goes_on { OnOk result (GoesOn (session_tools (H.refiners host.now) (H.conversions host.now)) read.now (W.contents writer.old) (W.contents writer.new) self.old self.new) }
+        ensures breaks { OnErr result (BreaksOff (session_tools (H.refiners host.now) (H.conversions host.now)) read.now (W.contents writer.old) (W.contents writer.new) self.old) }
+        ensures front { OnErr result (BreaksFront (session_tools (H.refiners host.now) (H.conversions host.now)) read.now (W.contents writer.old) (W.contents writer.new) self.old) }
         ensures unfailed { OnOk result (W.has_failed writer.new ≡ false) }
         ensures failed { OnErr result (W.has_failed writer.new ≡ true) }
         ensures kinds { IfErr result (λ fault. fault ≡ WriteFault) }
