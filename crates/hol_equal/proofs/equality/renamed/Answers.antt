@@ -7,7 +7,7 @@ use Rattle.hol_model.proofs.Terms.Images.{image-equation}
 use Rattle.hol_journal.proofs.GrowthLemmas.{journals-grow}
 use Rattle.hol_equal.proofs.CutLemmas.{shown-known, itself-names, given-derives}
 use Rattle.hol_equal.proofs.StepLemmas.{formula-known, passed_on}
-use Rattle.hol_equal.proofs.equality.named_same.Goals as goal
+use Rattle.hol_equal.proofs.equality.renamed.Goals as goal
 
 pub refl_known-requires : goal.refl_known-requires
 refl_known-requires c = (formula-known c.args.recorder.now.theory c.args.term.now c.requires.formula).known
@@ -16,10 +16,10 @@ pub returns-in_err-reflexive-clause-derives : goal.returns-in_err-reflexive-clau
 returns-in_err-reflexive-clause-derives c h shown =
     rw (passed_on c.from_residual.result c.in_err-reflexive.field-0.0 c.from_residual.ensures.1)
     (c.in_err-reflexive.ensures.derives bool_type
-    (shown-known c.args.recorder.now c.theory_is_legal.ensures c.args.premise.now c.requires.premise.made c.thm.result.now c.thm.ensures c.concl-premise.ensures.theorem h (image c.args.term.now) shown))
+    (shown-known c.args.recorder.now c.theory_is_legal.ensures c.args.premise.now c.requires.premise c.thm.result.now c.thm.ensures c.concl-premise.ensures.theorem h (image c.args.term.now) shown))
 
 pub eq_mp_known-requires-clause-second : goal.eq_mp_known-requires-clause-second
-eq_mp_known-requires-clause-second c = journals-grow.stays c.args.recorder.now c.refl_known.new.recorder c.args.premise.now c.in_ok-reflexive.ensures.continues.grown c.requires.premise.made
+eq_mp_known-requires-clause-second c = journals-grow.stays c.args.recorder.now c.refl_known.new.recorder c.args.premise.now c.in_ok-reflexive.ensures.continues.grown c.requires.premise
 
 pub returns-clause-names : goal.returns-clause-names
 returns-clause-names c =
@@ -28,7 +28,7 @@ returns-clause-names c =
 pub returns-clause-derives : goal.returns-clause-derives
 returns-clause-derives c h shown =
     let t = image c.args.term.now in
-    let known = shown-known c.args.recorder.now c.theory_is_legal.ensures c.args.premise.now c.requires.premise.made c.thm.result.now c.thm.ensures c.concl-premise.ensures.theorem h t shown in
+    let known = shown-known c.args.recorder.now c.theory_is_legal.ensures c.args.premise.now c.requires.premise c.thm.result.now c.thm.ensures c.concl-premise.ensures.theorem h t shown in
     given-derives (nameless_within_limits (nameless_equation bool_type t t)) c.eq_mp_known.result h t (c.eq_mp_known.ensures.gives [] h t t (c.in_ok-reflexive.ensures.derives bool_type known) shown)
 
 pub eq_mp_known-requires-clause-fits : goal.eq_mp_known-requires-clause-fits
