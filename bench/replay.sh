@@ -12,7 +12,8 @@ here=$(cd "$(dirname "$0")" && pwd)
 mkdir -p "$1/crates/replay/src"
 git init -q "$1"
 for crate in hol_model hol_sound hol_laws_steps hol_types hol_terms hol_alpha hol_subst hol_kernel hol_journal hol_theorem_store hol_just \
-    hol_equal hol_prelude_derivations hol_prelude_laws hol_prelude hol_taut_laws hol_theorem_library hol_bool hol_quant hol_just_replay; do
+    hol_equal hol_prelude_derivations hol_prelude_laws hol_prelude hol_taut_formulas \
+    hol_taut_laws hol_theorem_library hol_bool hol_quant hol_just_replay; do
     cp -a "$here/../crates/$crate" "$1/crates/"
     grep "^$crate:" "$here/../crates.txt" >> "$1/crates.txt"
 done

@@ -11,6 +11,7 @@ ghost use Rattle.hol_model.specs.Derived.DerivedRules.{AnswersStated, terms_of_t
 ghost use Rattle.hol_model.specs.declared.rule.Rule.TheVariants as rules;
 ghost use Rattle.hol_journal.specs.Journal.{IsMade, theorem_in};
 ghost use Rattle.hol_prelude.specs.HasLogic.{HasLogic};
+ghost use Rattle.hol_bool.specs.Conjunctions.{Conjoins};
 ghost use Rattle.hol_equal.specs.Room.{Room, FitsIf};
 ghost use Rattle.hol_journal.specs.Growth.{Continues};
 ghost use Rattle.hol_equal.specs.Sequents.{Shows, DerivesIf};
@@ -88,37 +89,9 @@ fn truth_equation(recorder: &mut Recorder, logic: &Bool, premise: &Rec) -> Resul
     steps::deduct_antisym(recorder, truth, premise)
 }
 
-// From `T <=> p` and `T <=> q`, `T /\ T <=> p /\ q`.
+// From `T <=> p` and `T <=> q`, `T /\ T <=> p /\ q`, and from it `p /\ q`.
 #[tactic(auto, using(crate::proofs::PreludeSteps::staying))]
-fn conj_congruence(
-    recorder: &mut Recorder,
-    logic: &Bool,
-    first: &Rec,
-    second: &Rec,
-) -> Result<Rec, Fault>
-    requires logic { HasLogic recorder.old logic.now }
-    requires first { IsMade recorder.old first.now }
-    requires second { IsMade recorder.old second.now }
-    ensures continues { Continues recorder.old recorder.new result }
-    ensures names { (p q : NamedTerm) → first.now.theorem.conclusion ≡ equation true_term p → second.now.theorem.conclusion ≡ equation true_term q
-        → IfOk result (λ made. made.theorem.conclusion ≡ equation (conjunction true_term true_term) (conjunction p q)) }
-    ensures derives { (h k : List Nameless) (p q : Nameless) (room : Room) → Shows first.now.theorem h (nameless_equation bool_type nameless.true_term p)
-        → Shows second.now.theorem k (nameless_equation bool_type nameless.true_term q) → FitsIf room (nameless.conjunction p q)
-        → DerivesIf room result (h ++ k) (nameless_equation bool_type (nameless.conjunction nameless.true_term nameless.true_term) (nameless.conjunction p q)) }
-{
-    let connective = theorem_of(recorder, logic, AND_REFL);
-    let function = steps::mk_comb(recorder, connective, first)?;
-    steps::mk_comb(recorder, &function, second)
-}
-
-// From `T <=> p` and `T <=> q`, `p /\ q`.
-#[tactic(auto, using(crate::proofs::PreludeSteps::staying))]
-fn conj_of_truths(
-    recorder: &mut Recorder,
-    logic: &Bool,
-    first: &Rec,
-    second: &Rec,
-) -> Result<Rec, Fault>
+fn by_truths(recorder: &mut Recorder, logic: &Bool, first: &Rec, second: &Rec) -> Result<Rec, Fault>
     requires logic { HasLogic recorder.old logic.now }
     requires first { IsMade recorder.old first.now }
     requires second { IsMade recorder.old second.now }
@@ -129,26 +102,21 @@ fn conj_of_truths(
         → Shows second.now.theorem k (nameless_equation bool_type nameless.true_term q) → FitsIf room (nameless.conjunction p q)
         → DerivesIf room result (h ++ k) (nameless.conjunction p q) }
 {
-    let congruence = conj_congruence(recorder, logic, first, second)?;
+    let connective = theorem_of(recorder, logic, AND_REFL);
+    let function = steps::mk_comb(recorder, connective, first)?;
+    let congruence = steps::mk_comb(recorder, &function, second)?;
     let truths = theorem_of(recorder, logic, T_AND_T);
     steps::eq_mp(recorder, &congruence, truths)
 }
 
 // CONJ, by the theorem of the prelude at the two formulas.
 #[tactic(auto, using(hol_equal::proofs::StepLemmas::still_made, hol_equal::proofs::StepLemmas::now_made))]
-fn conj_by_theorem(
-    recorder: &mut Recorder,
-    logic: &Bool,
-    first: &Rec,
-    second: &Rec,
-) -> Result<Rec, Fault>
+fn conjoined(recorder: &mut Recorder, logic: &Bool, first: &Rec, second: &Rec) -> Result<Rec, Fault>
     requires logic { HasLogic recorder.old logic.now }
     requires first { IsMade recorder.old first.now }
     requires second { IsMade recorder.old second.now }
     ensures continues { Continues recorder.old recorder.new result }
-    ensures names { IfOk result (λ made. made.theorem.conclusion ≡ conjunction first.now.theorem.conclusion second.now.theorem.conclusion) }
-    ensures derives { (h k : List Nameless) (p q : Nameless) (room : Room) → Shows first.now.theorem h p → Shows second.now.theorem k q
-        → FitsIf room (nameless_equation bool_type q (nameless.conjunction p q)) → DerivesIf room result (h ++ k) (nameless.conjunction p q) }
+    ensures conjoins { Conjoins first.now.theorem second.now.theorem result }
 {
     let alloc = recorder.alloc();
     let p = conclusion_of(recorder, first);
@@ -172,16 +140,14 @@ pub(crate) fn conj_in_room(
     requires first { IsMade recorder.old first.now }
     requires second { IsMade recorder.old second.now }
     ensures continues { Continues recorder.old recorder.new result }
-    ensures names { IfOk result (λ made. made.theorem.conclusion ≡ conjunction first.now.theorem.conclusion second.now.theorem.conclusion) }
-    ensures derives { (h k : List Nameless) (p q : Nameless) (room : Room) → Shows first.now.theorem h p → Shows second.now.theorem k q
-        → FitsIf room (nameless_equation bool_type q (nameless.conjunction p q)) → DerivesIf room result (h ++ k) (nameless.conjunction p q) }
+    ensures conjoins { Conjoins first.now.theorem second.now.theorem result }
 {
     if supposes_truth(recorder, first) || supposes_truth(recorder, second) {
-        return conj_by_theorem(recorder, logic, first, second);
+        return conjoined(recorder, logic, first, second);
     }
     let left = truth_equation(recorder, logic, first)?;
     let right = truth_equation(recorder, logic, second)?;
-    conj_of_truths(recorder, logic, &left, &right)
+    by_truths(recorder, logic, &left, &right)
 }
 
 /// CONJ: from `p` and `q`, `p /\ q`, in at most six steps, and where `T` is no hypothesis in five that name no formula.

@@ -92,12 +92,7 @@ fn first_of_both(recorder: &mut Recorder, logic: &Bool, p: &Term, q: &Term) -> R
 
 // From `q`, `p /\ q <=> p` without the hypothesis `p`.
 #[tactic(auto, using(crate::proofs::PreludeSteps::staying))]
-fn conj_absorption(
-    recorder: &mut Recorder,
-    logic: &Bool,
-    p: &Term,
-    premise: &Rec,
-) -> Result<Rec, Fault>
+fn absorption(recorder: &mut Recorder, logic: &Bool, p: &Term, premise: &Rec) -> Result<Rec, Fault>
     requires logic { HasLogic recorder.old logic.now }
     requires formula { IsFormula recorder.old.theory p.now }
     requires premise { IsMade recorder.old premise.now }
@@ -135,7 +130,7 @@ pub fn disch_in_room(
     let q = conclusion_of(recorder, premise);
     let stated = connect(alloc, "==>", p, q)?;
     let terms = for_p_q(alloc, p, q)?;
-    let equation = conj_absorption(recorder, logic, p, premise)?;
+    let equation = absorption(recorder, logic, p, premise)?;
     by_leading_theorem(recorder, logic, DISCH, &terms, &stated, &equation)
 }
 

@@ -32,7 +32,7 @@ fn go_on(alloc: Global, log: &mut Log, text: &[u8]) -> Result<Result<(), Cause>,
     ensures refused { IfErr result (λ fault. fault ≡ Memory) }
 {
     match read_line(alloc, text)? {
-        Ok(line) => take(alloc, log, &line),
+        Ok(line) => take(log, &line),
         Err(cause) => Ok(Err(cause)),
     }
 }

@@ -169,24 +169,21 @@ leaf-instance-refused t0 t1 change types pairs meaning passed number name ty fau
 
 -- constants
 
-pub leaf-constant : (t0 t1 t2 : TermTable) (change : Change) (types : List (ℕ × ℕ)) (meaning : PartChange) (passed number name ty new : ℕ) (result : Result ℕ Fault) → IsGrown t0 t1 →
-    IsGrown t1 t2 → name < length t0.names
-    → term_at t0.terms number ≡ const (name_at t0.names name) (type_at t0.types ty) → AnswersTypeOf (meaning.on_type (type_at t0.types ty)) (Ok new) t1 change types meaning
+pub leaf-constant : (t0 t1 t2 : TermTable) (change : Change) (types : List (ℕ × ℕ)) (meaning : PartChange) (name ty new : ℕ) (result : Result ℕ Fault) → IsGrown t0 t1 →
+    IsGrown t1 t2 → name < length t0.names → AnswersTypeOf (meaning.on_type (type_at t0.types ty)) (Ok new) t1 change types meaning
     → IfOk result (λ n. slice_get t2.terms n ≡ Some (const (name_at t1.names name) (type_at t1.types new))) → IfErr result (λ fault. fault ≡ Memory) →
-    AnswersLeaf (changed meaning passed (term_at t0.terms number)) result t2 change types meaning
-leaf-constant t0 t1 t2 change types meaning passed number name ty new result grown later within is answers there refused =
+    AnswersLeaf (const (name_at t0.names name) (meaning.on_type (type_at t0.types ty))) result t2 change types meaning
+leaf-constant t0 t1 t2 change types meaning name ty new result grown later within answers there refused =
     let names = name-kept t0 t1 name grown within in
     let type_is : type_at t1.types new ≡ meaning.on_type (type_at t0.types ty) = get_or_from_slice_get t1.types new _ bool_type answers.number in
-    let wanted : const (name_at t1.names name) (type_at t1.types new) ≡ changed meaning passed (term_at t0.terms number) =
-    (λ i. const (names i) (type_is i)) ∙ sym (ap (changed meaning passed) is) in
+    let wanted : const (name_at t1.names name) (type_at t1.types new) ≡ const (name_at t0.names name) (meaning.on_type (type_at t0.types ty)) = (λ i. const (names i) (type_is i)) in
     record { answered = made _ _ result t2.terms wanted there refused; held = type_held-grown t1 t2 change types meaning later answers.held }
 
-pub leaf-constant-refused : (t0 t1 : TermTable) (change : Change) (types : List (ℕ × ℕ)) (meaning : PartChange) (passed number name ty : ℕ) (fault : Fault)
-    → term_at t0.terms number ≡ const (name_at t0.names name) (type_at t0.types ty) → AnswersTypeOf (meaning.on_type (type_at t0.types ty)) (Err fault) t1 change types meaning →
-    AnswersLeaf (changed meaning passed (term_at t0.terms number)) (Err fault) t1 change types meaning
-leaf-constant-refused t0 t1 change types meaning passed number name ty fault is answers =
-    let wanted : const (name_at t0.names name) (meaning.on_type (type_at t0.types ty)) ≡ changed meaning passed (term_at t0.terms number) = sym (ap (changed meaning passed) is) in
+pub leaf-constant-refused : (t0 t1 : TermTable) (change : Change) (types : List (ℕ × ℕ)) (meaning : PartChange) (name ty : ℕ) (fault : Fault)
+    → AnswersTypeOf (meaning.on_type (type_at t0.types ty)) (Err fault) t1 change types meaning →
+    AnswersLeaf (const (name_at t0.names name) (meaning.on_type (type_at t0.types ty))) (Err fault) t1 change types meaning
+leaf-constant-refused t0 t1 change types meaning name ty fault answers =
     record {
-      answered = record { number = tt; refused = elim answers.refused [ inl memory ↦ inl memory | inr large ↦ inr (large.0, subst IsPastLimits wanted (inr large.1)) ] };
+      answered = record { number = tt; refused = elim answers.refused [ inl memory ↦ inl memory | inr large ↦ inr (large.0, inr large.1) ] };
       held = answers.held;
     }

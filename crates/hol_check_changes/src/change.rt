@@ -15,7 +15,6 @@ use hol_check_terms::memo::{Place, recall, remember};
 use hol_check_terms::terms::{TermShape, Terms};
 use hol_model::{Fault, TERM_HEIGHT_LIMIT};
 use indexmap::IndexMap;
-use std::alloc::Global;
 
 // The change of a part that stands under the passed binders.
 fn change_at(
@@ -39,9 +38,7 @@ fn change_at(
     let place = Place { passed, number };
     match terms.shape(number) {
         TermShape::Free(name, ty) => change_free(terms, types, change, passed, number, name, ty),
-        TermShape::Constant(name, ty) => {
-            change_constant(terms, types, change, passed, number, name, ty)
-        }
+        TermShape::Constant(name, ty) => change_constant(terms, types, change, name, ty),
         TermShape::Bound(index) => Ok(change_bound(terms, change, passed, number, index)),
         TermShape::Application(function, argument) => {
             if let Some(new) = recall(parts, place) {
@@ -66,50 +63,35 @@ fn change_at(
 }
 
 /// The body of an abstraction over a variable.
-pub(crate) fn close(
-    alloc: Global,
-    terms: &mut Terms,
-    variable: usize,
-    number: usize,
-) -> Result<usize, Fault>
+pub(crate) fn close(terms: &mut Terms, variable: usize, number: usize) -> Result<usize, Fault>
     requires variable { IsVariable terms.old.terms variable }
     requires number { number < length terms.old.terms }
     ensures closed { (name : List ℕ) (ty : HolType) → slice_get terms.old.terms variable ≡ Some (free name ty)
         → IsAnswered (substitution.close name ty (term_at terms.old.terms number)) result terms.new.terms }
     ensures grows { IsGrown terms.old terms.new }
 {
-    change_whole(alloc, terms, &Change::Close(variable), number)
+    change_whole(terms, &Change::Close(variable), number)
 }
 
 /// The body of an abstraction with a term in place of its variable.
-pub(crate) fn fill(
-    alloc: Global,
-    terms: &mut Terms,
-    new: usize,
-    number: usize,
-) -> Result<usize, Fault>
+pub(crate) fn fill(terms: &mut Terms, new: usize, number: usize) -> Result<usize, Fault>
     requires new { new < length terms.old.terms }
     requires number { number < length terms.old.terms }
     ensures filled { IsMade (substitution.fill (term_at terms.old.terms new) (term_at terms.old.terms number)) result terms.new.terms }
     ensures grows { IsGrown terms.old terms.new }
 {
-    change_whole(alloc, terms, &Change::Fill(new), number)
+    change_whole(terms, &Change::Fill(new), number)
 }
 
 /// The change of a term that stands under no binders.
-pub fn change_whole(
-    alloc: Global,
-    terms: &mut Terms,
-    change: &Change<'_>,
-    number: usize,
-) -> Result<usize, Fault>
+pub fn change_whole(terms: &mut Terms, change: &Change<'_>, number: usize) -> Result<usize, Fault>
     requires number { number < length terms.old.terms }
     requires meaning { HasMeaning terms.old change.now }
     ensures changed { (meaning : PartChange) → IsMeant terms.old change.now meaning → IsAnswered (changed meaning 0 (term_at terms.old.terms number)) result terms.new.terms }
     ensures grows { IsGrown terms.old terms.new }
 {
     let (_height, _nodes) = terms.size(number);
-    let mut parts = IndexMap::new(alloc);
-    let mut types = IndexMap::new(alloc);
+    let mut parts = IndexMap::new(terms.alloc());
+    let mut types = IndexMap::new(terms.alloc());
     change_at(terms, &mut parts, &mut types, change, 0, number)
 }

@@ -13,7 +13,6 @@ use hol_check_terms::occurs::occurs_free;
 use hol_check_terms::terms::{TermShape, Terms};
 use hol_check_terms::types::TypeShape;
 use hol_model::Fault;
-use std::alloc::Global;
 
 /// Whether a term is a variable.
 pub fn is_free_variable(terms: &Terms, number: usize) -> bool
@@ -79,14 +78,14 @@ pub fn right_side(terms: &Terms, number: usize) -> usize
 }
 
 /// Whether an abstraction is applied to a variable that is not free in its body.
-pub fn is_trivial_redex(alloc: Global, terms: &Terms, number: usize) -> Result<bool, Fault>
+pub fn is_trivial_redex(terms: &Terms, number: usize) -> Result<bool, Fault>
     requires { number < length terms.now.terms }
     ensures trivial { IfOk result (λ answer. answer ≡ faults.is_trivial_redex (term_at terms.now.terms number)) }
     ensures refused { IfErr result (λ fault. fault ≡ Memory) }
 {
     match terms.shape(number) {
         TermShape::Application(function, argument) => match terms.shape(function) {
-            TermShape::Abstraction(_ty, body) => is_absent_variable(alloc, terms, argument, body),
+            TermShape::Abstraction(_ty, body) => is_absent_variable(terms, argument, body),
             _ => Ok(false),
         },
         _ => Ok(false),
@@ -94,19 +93,14 @@ pub fn is_trivial_redex(alloc: Global, terms: &Terms, number: usize) -> Result<b
 }
 
 // Whether a term is a variable that is not free in another.
-fn is_absent_variable(
-    alloc: Global,
-    terms: &Terms,
-    variable: usize,
-    body: usize,
-) -> Result<bool, Fault>
+fn is_absent_variable(terms: &Terms, variable: usize, body: usize) -> Result<bool, Fault>
     requires variable { variable < length terms.now.terms }
     requires body { body < length terms.now.terms }
     ensures absent { IfOk result (λ answer. answer ≡ is_absent_variable (term_at terms.now.terms variable) (term_at terms.now.terms body)) }
     ensures refused { IfErr result (λ fault. fault ≡ Memory) }
 {
     match terms.shape(variable) {
-        TermShape::Free(_name, _ty) => Ok(!occurs_free(alloc, terms, variable, body)?),
+        TermShape::Free(_name, _ty) => Ok(!occurs_free(terms, variable, body)?),
         _ => Ok(false),
     }
 }

@@ -18,15 +18,14 @@ use hol_check_terms::terms::{TermShape, Terms};
 use hol_check_terms::types::TypeShape;
 use hol_check_terms::typing::type_of;
 use hol_model::Fault;
-use std::alloc::Global;
 
 /// A term again, refused where it is past the limits.
-pub fn within_limits(alloc: Global, terms: &mut Terms, number: usize) -> Result<usize, Fault>
+pub fn within_limits(terms: &mut Terms, number: usize) -> Result<usize, Fault>
     requires { number < length terms.old.terms }
     ensures formed { IsFormed (term_at terms.old.terms number) result terms.new.terms }
     ensures grows { IsGrown terms.old terms.new }
 {
-    type_of(alloc, terms, number)?;
+    type_of(terms, number)?;
     Ok(number)
 }
 
@@ -42,24 +41,24 @@ fn equality_type(terms: &mut Terms, ty: usize) -> Result<usize, Fault>
 }
 
 /// The constant of a name at a type.
-pub fn constant(alloc: Global, terms: &mut Terms, name: &[u8], ty: usize) -> Result<usize, Fault>
+pub fn constant(terms: &mut Terms, name: &[u8], ty: usize) -> Result<usize, Fault>
     requires { ty < length terms.old.types }
     ensures number { IfOk result (λ number. slice_get terms.new.terms number ≡ Some (const name.now (type_at terms.old.types ty))) }
     ensures refused { IfErr result (λ fault. fault ≡ Memory) }
     ensures grows { IsGrown terms.old terms.new }
 {
-    let name = terms.name(alloc, name)?;
+    let name = terms.name(name)?;
     terms.constant(name, ty)
 }
 
 /// The variable of a name and a type.
-pub fn variable(alloc: Global, terms: &mut Terms, name: &[u8], ty: usize) -> Result<usize, Fault>
+pub fn variable(terms: &mut Terms, name: &[u8], ty: usize) -> Result<usize, Fault>
     requires { ty < length terms.old.types }
     ensures number { IfOk result (λ number. slice_get terms.new.terms number ≡ Some (free name.now (type_at terms.old.types ty))) }
     ensures refused { IfErr result (λ fault. fault ≡ Memory) }
     ensures grows { IsGrown terms.old terms.new }
 {
-    let name = terms.name(alloc, name)?;
+    let name = terms.name(name)?;
     terms.free(name, ty)
 }
 
@@ -74,19 +73,14 @@ pub fn application(terms: &mut Terms, function: usize, argument: usize) -> Resul
 }
 
 /// The abstraction of a body over a variable.
-pub fn abstraction_over(
-    alloc: Global,
-    terms: &mut Terms,
-    variable: usize,
-    number: usize,
-) -> Result<usize, Fault>
+pub fn abstraction_over(terms: &mut Terms, variable: usize, number: usize) -> Result<usize, Fault>
     requires variable { IsVariable terms.old.terms variable }
     requires number { number < length terms.old.terms }
     ensures made { IsMade (sequents.abstraction_over (term_at terms.old.terms variable) (term_at terms.old.terms number)) result terms.new.terms }
     ensures grows { IsGrown terms.old terms.new }
 {
     let ty = variable_type(terms, variable);
-    let body = close(alloc, terms, variable, number)?;
+    let body = close(terms, variable, number)?;
     terms.abstraction(ty, body)
 }
 
@@ -103,14 +97,14 @@ fn variable_type(terms: &Terms, variable: usize) -> usize
 }
 
 /// The body of an abstraction that is applied, with the argument in it.
-pub(crate) fn redex_body(alloc: Global, terms: &mut Terms, number: usize) -> Result<usize, Fault>
+pub(crate) fn redex_body(terms: &mut Terms, number: usize) -> Result<usize, Fault>
     requires { number < length terms.old.terms }
     ensures made { IsMade (sequents.redex_body (term_at terms.old.terms number)) result terms.new.terms }
     ensures grows { IsGrown terms.old terms.new }
 {
     match terms.shape(number) {
         TermShape::Application(function, argument) => match terms.shape(function) {
-            TermShape::Abstraction(_ty, body) => fill(alloc, terms, argument, body),
+            TermShape::Abstraction(_ty, body) => fill(terms, argument, body),
             TermShape::Free(_name, _ty) => Ok(number),
             TermShape::Constant(_name, _ty) => Ok(number),
             TermShape::Bound(_index) => Ok(number),
@@ -178,29 +172,18 @@ pub fn takes(terms: &Terms, function: usize, argument: usize) -> bool
 }
 
 /// The equation of two terms, of the type of the first.
-pub fn equation_of(
-    alloc: Global,
-    terms: &mut Terms,
-    left: usize,
-    right: usize,
-) -> Result<usize, Fault>
+pub fn equation_of(terms: &mut Terms, left: usize, right: usize) -> Result<usize, Fault>
     requires left { left < length terms.old.terms }
     requires right { right < length terms.old.terms }
     ensures formed { IsFormed (sequents.equation_of (term_at terms.old.terms left) (term_at terms.old.terms right)) result terms.new.terms }
     ensures grows { IsGrown terms.old terms.new }
 {
-    let ty = type_of(alloc, terms, left)?;
-    equation_at(alloc, terms, ty, left, right)
+    let ty = type_of(terms, left)?;
+    equation_at(terms, ty, left, right)
 }
 
 // The equation of two terms at a type.
-fn equation_at(
-    alloc: Global,
-    terms: &mut Terms,
-    ty: usize,
-    left: usize,
-    right: usize,
-) -> Result<usize, Fault>
+fn equation_at(terms: &mut Terms, ty: usize, left: usize, right: usize) -> Result<usize, Fault>
     requires ty { ty < length terms.old.types }
     requires left { left < length terms.old.terms }
     requires right { right < length terms.old.terms }
@@ -208,13 +191,12 @@ fn equation_at(
     ensures grows { IsGrown terms.old terms.new }
 {
     let equality_ty = equality_type(terms, ty)?;
-    let equality = constant(alloc, terms, b"=", equality_ty)?;
-    applied_to_both(alloc, terms, equality, left, right)
+    let equality = constant(terms, b"=", equality_ty)?;
+    applied_to_both(terms, equality, left, right)
 }
 
 // A function applied to two arguments, within the limits.
 fn applied_to_both(
-    alloc: Global,
     terms: &mut Terms,
     function: usize,
     left: usize,
@@ -228,12 +210,11 @@ fn applied_to_both(
 {
     let half = application(terms, function, left)?;
     let whole = application(terms, half, right)?;
-    within_limits(alloc, terms, whole)
+    within_limits(terms, whole)
 }
 
 /// The equation of two functions applied to arguments.
 pub fn equation_of_applications(
-    alloc: Global,
     terms: &mut Terms,
     left: (usize, usize),
     right: (usize, usize),
@@ -248,12 +229,11 @@ pub fn equation_of_applications(
 {
     let left = application(terms, left.0, left.1)?;
     let right = application(terms, right.0, right.1)?;
-    equation_of(alloc, terms, left, right)
+    equation_of(terms, left, right)
 }
 
 /// The equation of the abstractions of two bodies over a variable.
 pub fn equation_of_abstractions(
-    alloc: Global,
     terms: &mut Terms,
     variable: usize,
     left: usize,
@@ -266,19 +246,19 @@ pub fn equation_of_abstractions(
         IsFormed (sequents.equation_of (over (term_at terms.old.terms left)) (over (term_at terms.old.terms right))) result terms.new.terms }
     ensures grows { IsGrown terms.old terms.new }
 {
-    let left = abstraction_over(alloc, terms, variable, left)?;
-    let right = abstraction_over(alloc, terms, variable, right)?;
-    equation_of(alloc, terms, left, right)
+    let left = abstraction_over(terms, variable, left)?;
+    let right = abstraction_over(terms, variable, right)?;
+    equation_of(terms, left, right)
 }
 
 /// The equation of an abstraction that is applied and its body with the argument in it.
-pub fn equation_of_redex(alloc: Global, terms: &mut Terms, redex: usize) -> Result<usize, Fault>
+pub fn equation_of_redex(terms: &mut Terms, redex: usize) -> Result<usize, Fault>
     requires { redex < length terms.old.terms }
     ensures formed { IsFormed (sequents.equation_of (term_at terms.old.terms redex) (sequents.redex_body (term_at terms.old.terms redex))) result terms.new.terms }
     ensures grows { IsGrown terms.old terms.new }
 {
-    let body = redex_body(alloc, terms, redex)?;
-    equation_of(alloc, terms, redex, body)
+    let body = redex_body(terms, redex)?;
+    equation_of(terms, redex, body)
 }
 
 /// Whether the function on the sides of an equation takes what is on the sides of another.
@@ -295,44 +275,39 @@ pub fn sides_fit(terms: &mut Terms, first: usize, second: usize) -> Result<bool,
 }
 
 /// The type of a term within the limits, which only memory refuses.
-pub fn fitting_type(alloc: Global, terms: &mut Terms, number: usize) -> Result<usize, Fault>
+pub fn fitting_type(terms: &mut Terms, number: usize) -> Result<usize, Fault>
     requires { IsFitting terms.old.terms number }
     ensures number { IfOk result (λ ty. slice_get terms.new.types ty ≡ Some (term_type (term_at terms.old.terms number))) }
     ensures refused { IfErr result (λ fault. fault ≡ Memory) }
     ensures grows { IsGrown terms.old terms.new }
 {
-    match type_of(alloc, terms, number) {
+    match type_of(terms, number) {
         Ok(ty) => Ok(ty),
         Err(_fault) => Err(Fault::Memory),
     }
 }
 
 /// Whether a term within the limits is of type `bool`.
-pub fn is_formula(alloc: Global, terms: &mut Terms, number: usize) -> Result<bool, Fault>
+pub fn is_formula(terms: &mut Terms, number: usize) -> Result<bool, Fault>
     requires { IsFitting terms.old.terms number }
     ensures formula { IfOk result (λ answer. answer ≡ type_eq (term_type (term_at terms.old.terms number)) bool_type) }
     ensures refused { IfErr result (λ fault. fault ≡ Memory) }
     ensures grows { IsGrown terms.old terms.new }
 {
-    let ty = fitting_type(alloc, terms, number)?;
+    let ty = fitting_type(terms, number)?;
     let boolean = terms.boolean()?;
     Ok(terms.is_same_type(ty, boolean))
 }
 
 /// Whether two terms within the limits have one type.
-pub fn have_one_type(
-    alloc: Global,
-    terms: &mut Terms,
-    first: usize,
-    second: usize,
-) -> Result<bool, Fault>
+pub fn have_one_type(terms: &mut Terms, first: usize, second: usize) -> Result<bool, Fault>
     requires first { IsFitting terms.old.terms first }
     requires second { IsFitting terms.old.terms second }
     ensures one { IfOk result (λ answer. answer ≡ type_eq (term_type (term_at terms.old.terms first)) (term_type (term_at terms.old.terms second))) }
     ensures refused { IfErr result (λ fault. fault ≡ Memory) }
     ensures grows { IsGrown terms.old terms.new }
 {
-    let first_ty = fitting_type(alloc, terms, first)?;
-    let second_ty = fitting_type(alloc, terms, second)?;
+    let first_ty = fitting_type(terms, first)?;
+    let second_ty = fitting_type(terms, second)?;
     Ok(terms.is_same_type(first_ty, second_ty))
 }

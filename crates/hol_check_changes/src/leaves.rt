@@ -114,18 +114,14 @@ pub(crate) fn change_constant(
     terms: &mut Terms,
     types: &mut IndexMap<usize, usize>,
     change: &Change<'_>,
-    passed: usize,
-    number: usize,
     name: usize,
     ty: usize,
 ) -> Result<usize, Fault>
-    requires number { number < length terms.old.terms }
     requires name { name < length terms.old.names }
     requires ty { ty < length terms.old.types }
-    requires is_constant { term_at terms.old.terms number ≡ const (name_at terms.old.names name) (type_at terms.old.types ty) }
     requires work { IsTypeWork terms.old change.now types.old.entries }
     ensures changed { (meaning : PartChange) → IsTypeHeld terms.old change.now types.old.entries meaning
-        → AnswersLeaf (changed meaning passed (term_at terms.old.terms number)) result terms.new change.now types.new.entries meaning }
+        → AnswersLeaf (const (name_at terms.old.names name) (meaning.on_type (type_at terms.old.types ty))) result terms.new change.now types.new.entries meaning }
     ensures grows { IsGrown terms.old terms.new }
 {
     let new = change_type(terms, types, change, ty)?;

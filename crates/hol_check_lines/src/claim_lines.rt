@@ -16,12 +16,10 @@ use hol_check_rules::hypotheses::set_of;
 use hol_check_rules::state::{Addition, Contents, ListedClaim, Theorem, term_at, theorem_at};
 use hol_check_terms::terms::Terms;
 use hol_model::{Cause, Fault, is_identifier};
-use std::alloc::Global;
 
 /// A claim: `number` where its theorem or one of its terms is not there, `name` where its name is no identifier,
 /// `claim` where the theorem has another conclusion or another set of hypotheses.
 pub(crate) fn judge_claim(
-    alloc: Global,
     terms: &mut Terms,
     contents: &Contents,
     name: &[u8],
@@ -40,17 +38,17 @@ pub(crate) fn judge_claim(
     let Some(concluded) = term_at(contents, conclusion) else {
         return Ok(Err(Cause::Number));
     };
-    let Some(supposed) = terms_named(alloc, terms, contents, hypotheses)? else {
+    let Some(supposed) = terms_named(terms, contents, hypotheses)? else {
         return Ok(Err(Cause::Number));
     };
     if !is_identifier(name) {
         return Ok(Err(Cause::Name));
     }
-    let ordered = set_of(alloc, terms, &supposed)?;
+    let ordered = set_of(terms, &supposed)?;
     if !concludes(terms, proved, concluded, &ordered) {
         return Ok(Err(Cause::Claim));
     }
-    let name = terms.name(alloc, name)?;
+    let name = terms.name(name)?;
     let theorem = theorem as usize;
     Ok(Ok(Addition::Claimed(ListedClaim { name, theorem })))
 }
@@ -78,7 +76,6 @@ fn are_same(terms: &Terms, first: &[usize], second: &[usize]) -> bool
 
 // The numbers in the tables of the terms that a line names.
 fn terms_named(
-    alloc: Global,
     terms: &Terms,
     contents: &Contents,
     lines: &[u32],
@@ -88,7 +85,7 @@ fn terms_named(
     ensures named { IfOk result (AreNamed (state_of terms.now contents.now) lines.now terms.now.terms) }
     ensures refused { IfErr result (λ fault. fault ≡ Memory) }
 {
-    let mut numbers = Vec::new(alloc);
+    let mut numbers = Vec::new(terms.alloc());
     for line in lines {
         let Some(number) = term_at(contents, *line) else {
             return Ok(None);

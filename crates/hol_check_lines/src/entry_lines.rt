@@ -13,16 +13,10 @@ use hol_check_rules::state::{Addition, Contents, is_full, is_of_first_version, t
 use hol_check_terms::reflection::is_fixed;
 use hol_check_terms::terms::Terms;
 use hol_model::{Cause, Fault, is_constant_name, is_declared_type_name};
-use std::alloc::Global;
 
 /// A new declared type: `shape` in a log of the first version, `name` where the name is none of a declared type or is
 /// taken, `large` where the theory is full.
-pub(crate) fn judge_new_type(
-    alloc: Global,
-    terms: &mut Terms,
-    contents: &Contents,
-    name: &[u8],
-) -> Judged
+pub(crate) fn judge_new_type(terms: &mut Terms, contents: &Contents, name: &[u8]) -> Judged
     requires { IsContents terms.old contents.now }
     ensures { Judges (new_type_line name.now) contents.now terms.old result terms.new }
 {
@@ -30,7 +24,7 @@ pub(crate) fn judge_new_type(
         return Ok(Err(Cause::Shape));
     }
     let is_legal = is_declared_type_name(name);
-    let Some(number) = new_name(alloc, terms, contents, name, is_legal)? else {
+    let Some(number) = new_name(terms, contents, name, is_legal)? else {
         return Ok(Err(Cause::Name));
     };
     if is_full(contents) {
@@ -43,7 +37,6 @@ pub(crate) fn judge_new_type(
 /// the name is none of a constant or is taken, `rule` where a type variable stands in the type, `large` where the
 /// theory is full.
 pub(crate) fn judge_new_constant(
-    alloc: Global,
     terms: &mut Terms,
     contents: &Contents,
     name: &[u8],
@@ -59,7 +52,7 @@ pub(crate) fn judge_new_constant(
         return Ok(Err(Cause::Number));
     };
     let is_legal = is_constant_name(name);
-    let Some(number) = new_name(alloc, terms, contents, name, is_legal)? else {
+    let Some(number) = new_name(terms, contents, name, is_legal)? else {
         return Ok(Err(Cause::Name));
     };
     if !is_fixed(terms, named) {
@@ -73,7 +66,6 @@ pub(crate) fn judge_new_constant(
 
 /// The number of a new name, `None` where the name is not legal or is taken.
 pub(crate) fn new_name(
-    alloc: Global,
     terms: &mut Terms,
     contents: &Contents,
     name: &[u8],
@@ -87,7 +79,7 @@ pub(crate) fn new_name(
     if !is_legal {
         return Ok(None);
     }
-    let number = terms.name(alloc, name)?;
+    let number = terms.name(name)?;
     if is_new_name(terms, &contents.known, number) {
         Ok(Some(number))
     } else {

@@ -16,40 +16,30 @@ use hol_check_rules::state::{Addition, Contents};
 use hol_check_terms::terms::Terms;
 use hol_logtext::Line;
 use hol_model::{Cause, Fault};
-use std::alloc::Global;
 
 /// What a line adds, or the first cause for which it is refused. A fault tells of memory that is used up.
 pub(crate) type Judged = Result<Result<Addition, Cause>, Fault>;
 
 /// What a line adds, or the first cause for which it is refused, but for `end`.
-pub(crate) fn judge(
-    alloc: Global,
-    terms: &mut Terms,
-    contents: &Contents,
-    line: &Line<'_>,
-) -> Judged
+pub(crate) fn judge(terms: &mut Terms, contents: &Contents, line: &Line<'_>) -> Judged
     requires contents { IsContents terms.old contents.now }
     requires made { AreNamedMade contents.now (line_of line.now) }
     ensures { Judges (line_of line.now) contents.now terms.old result terms.new }
 {
     match line {
         Line::Header(_version) => Ok(Err(Cause::Shape)),
-        Line::TypeVariable(name) => judge_type_variable(alloc, terms, contents, name.as_bytes()),
+        Line::TypeVariable(name) => judge_type_variable(terms, contents, name.as_bytes()),
         Line::Bool => judge_bool(terms, contents),
         Line::FunctionType(a, b) => judge_function_type(terms, contents, *a, *b),
-        Line::DeclaredType(name) => judge_declared_type(alloc, terms, contents, name.as_bytes()),
-        Line::Variable(name, ty) => judge_variable(alloc, terms, contents, name.as_bytes(), *ty),
-        Line::Constant(name, ty) => judge_constant(alloc, terms, contents, name.as_bytes(), *ty),
+        Line::DeclaredType(name) => judge_declared_type(terms, contents, name.as_bytes()),
+        Line::Variable(name, ty) => judge_variable(terms, contents, name.as_bytes(), *ty),
+        Line::Constant(name, ty) => judge_constant(terms, contents, name.as_bytes(), *ty),
         Line::Combination(f, a) => judge_combination(terms, contents, *f, *a),
         Line::Abstraction(v, t) => judge_abstraction(terms, contents, *v, *t),
-        Line::NewType(name) => judge_new_type(alloc, terms, contents, name.as_bytes()),
-        Line::NewConstant(name, ty) => {
-            judge_new_constant(alloc, terms, contents, name.as_bytes(), *ty)
-        }
-        Line::Theorem(rule) => judge_step(alloc, terms, contents, rule),
-        Line::Claim(name, i, c, hs) => {
-            judge_claim(alloc, terms, contents, name.as_bytes(), *i, *c, hs)
-        }
+        Line::NewType(name) => judge_new_type(terms, contents, name.as_bytes()),
+        Line::NewConstant(name, ty) => judge_new_constant(terms, contents, name.as_bytes(), *ty),
+        Line::Theorem(rule) => judge_step(terms, contents, rule),
+        Line::Claim(name, i, c, hs) => judge_claim(terms, contents, name.as_bytes(), *i, *c, hs),
         Line::End(_count) => Ok(Ok(Addition::Ended)),
     }
 }

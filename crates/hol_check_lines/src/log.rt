@@ -44,7 +44,7 @@ impl Log {
         ensures refused { IfErr result (λ fault. fault ≡ Memory) }
     {
         let mut table = Terms::new(alloc);
-        let known = first_known(alloc, &mut table)?;
+        let known = first_known(&mut table)?;
         let contents = Contents {
             version,
             types: Vec::new(alloc),

@@ -12,13 +12,11 @@ use hol_check_terms::terms::Terms;
 use hol_check_written::making::make;
 use hol_logtext::{Line, Rule};
 use hol_model::Fault;
-use std::alloc::Global;
 
 /// Makes the terms that a line names where they count as a term: in a step, and in a claim. Memory may be used up here
 /// that their own lines did not need.
 #[tactic(auto, using(crate::proofs::NamedLemmas::Makes_same, crate::proofs::NamedLemmas::Makes_trans, crate::proofs::NamedLemmas::made_claim))]
 pub(crate) fn make_named(
-    alloc: Global,
     terms: &mut Terms,
     contents: &mut Contents,
     line: &Line<'_>,
@@ -29,10 +27,10 @@ pub(crate) fn make_named(
     ensures refused { IfErr result (λ fault. fault ≡ Memory) }
 {
     match line {
-        Line::Theorem(rule) => make_of_rule(alloc, terms, contents, rule),
+        Line::Theorem(rule) => make_of_rule(terms, contents, rule),
         Line::Claim(_name, _theorem, conclusion, hypotheses) => {
-            make_lines(alloc, terms, contents, hypotheses)?;
-            make_line(alloc, terms, contents, *conclusion)
+            make_lines(terms, contents, hypotheses)?;
+            make_line(terms, contents, *conclusion)
         }
         _ => Ok(()),
     }
@@ -40,73 +38,53 @@ pub(crate) fn make_named(
 
 // Makes the terms that a rule names.
 #[tactic(auto, using(crate::proofs::NamedLemmas::Makes_same))]
-fn make_of_rule(
-    alloc: Global,
-    terms: &mut Terms,
-    contents: &mut Contents,
-    rule: &Rule<'_>,
-) -> Result<(), Fault>
+fn make_of_rule(terms: &mut Terms, contents: &mut Contents, rule: &Rule<'_>) -> Result<(), Fault>
     requires { IsContents terms.old contents.old }
     ensures made { OnOk result (AreRuleMade contents.new (rule_of rule.now)) }
     ensures makes { Makes terms.old terms.new contents.old contents.new }
     ensures refused { IfErr result (λ fault. fault ≡ Memory) }
 {
     match rule {
-        Rule::Refl(term) => make_line(alloc, terms, contents, *term),
-        Rule::Abs(variable, _premise) => make_line(alloc, terms, contents, *variable),
-        Rule::Beta(term) => make_line(alloc, terms, contents, *term),
-        Rule::Assume(term) => make_line(alloc, terms, contents, *term),
-        Rule::Inst(_premise, pairs) => make_pairs(alloc, terms, contents, pairs),
-        Rule::Def(_name, body) => make_line(alloc, terms, contents, *body),
+        Rule::Refl(term) => make_line(terms, contents, *term),
+        Rule::Abs(variable, _premise) => make_line(terms, contents, *variable),
+        Rule::Beta(term) => make_line(terms, contents, *term),
+        Rule::Assume(term) => make_line(terms, contents, *term),
+        Rule::Inst(_premise, pairs) => make_pairs(terms, contents, pairs),
+        Rule::Def(_name, body) => make_line(terms, contents, *body),
         _ => Ok(()),
     }
 }
 
 // Makes the terms of some lines.
-fn make_lines(
-    alloc: Global,
-    terms: &mut Terms,
-    contents: &mut Contents,
-    lines: &[u32],
-) -> Result<(), Fault>
+fn make_lines(terms: &mut Terms, contents: &mut Contents, lines: &[u32]) -> Result<(), Fault>
     requires { IsContents terms.old contents.old }
     ensures made { OnOk result (All (IsMadeLine contents.new) lines.now) }
     ensures makes { Makes terms.old terms.new contents.old contents.new }
     ensures refused { IfErr result (λ fault. fault ≡ Memory) }
 {
     for line in lines {
-        make_line(alloc, terms, contents, *line)?;
+        make_line(terms, contents, *line)?;
     }
     Ok(())
 }
 
 // Makes the terms of pairs of lines.
-fn make_pairs(
-    alloc: Global,
-    terms: &mut Terms,
-    contents: &mut Contents,
-    pairs: &[(u32, u32)],
-) -> Result<(), Fault>
+fn make_pairs(terms: &mut Terms, contents: &mut Contents, pairs: &[(u32, u32)]) -> Result<(), Fault>
     requires { IsContents terms.old contents.old }
     ensures made { OnOk result (All (IsMadePair contents.new) pairs.now) }
     ensures makes { Makes terms.old terms.new contents.old contents.new }
     ensures refused { IfErr result (λ fault. fault ≡ Memory) }
 {
     for pair in pairs {
-        make_line(alloc, terms, contents, pair.0)?;
-        make_line(alloc, terms, contents, pair.1)?;
+        make_line(terms, contents, pair.0)?;
+        make_line(terms, contents, pair.1)?;
     }
     Ok(())
 }
 
 // Makes the term of a line, where the line is there.
 #[tactic(auto, using(crate::proofs::NamedLemmas::Makes_same, crate::proofs::NamedLemmas::made_line, crate::proofs::NamedLemmas::no_line_made))]
-fn make_line(
-    alloc: Global,
-    terms: &mut Terms,
-    contents: &mut Contents,
-    line: u32,
-) -> Result<(), Fault>
+fn make_line(terms: &mut Terms, contents: &mut Contents, line: u32) -> Result<(), Fault>
     requires { IsContents terms.old contents.old }
     ensures made { OnOk result (IsMadeLine contents.new line) }
     ensures makes { Makes terms.old terms.new contents.old contents.new }
@@ -115,11 +93,5 @@ fn make_line(
     if line as usize >= contents.terms.len() {
         return Ok(());
     }
-    make(
-        alloc,
-        terms,
-        &mut contents.made,
-        &contents.terms,
-        line as usize,
-    )
+    make(terms, &mut contents.made, &contents.terms, line as usize)
 }

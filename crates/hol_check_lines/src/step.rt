@@ -27,7 +27,6 @@ use hol_check_rules::steps::logic::{assume, deduct, eq_mp};
 use hol_check_terms::terms::Terms;
 use hol_logtext::Rule;
 use hol_model::{Cause, Fault, is_constant_name};
-use std::alloc::Global;
 
 /// The rules whose lines name a term.
 #[derive(Clone, Copy)]
@@ -48,32 +47,25 @@ pub(crate) enum PairRule {
 
 /// What a line with a theorem adds, or the first cause that refuses it. Its conditions are tested in the order of their
 /// causes: `number`, `name`, `type`, `rule`, `large`.
-pub(crate) fn judge_step(
-    alloc: Global,
-    terms: &mut Terms,
-    contents: &Contents,
-    rule: &Rule<'_>,
-) -> Judged
+pub(crate) fn judge_step(terms: &mut Terms, contents: &Contents, rule: &Rule<'_>) -> Judged
     requires contents { IsContents terms.old contents.now }
     requires made { AreRuleMade contents.now (rule_of rule.now) }
     ensures { Judges (theorem_line (rule_of rule.now)) contents.now terms.old result terms.new }
 {
     match rule {
-        Rule::Refl(term) => judge_term(alloc, terms, contents, TermRule::Refl, *term),
-        Rule::Trans(i, j) => judge_pair(alloc, terms, contents, PairRule::Trans, *i, *j),
-        Rule::MkComb(i, j) => judge_pair(alloc, terms, contents, PairRule::MkComb, *i, *j),
-        Rule::Abs(variable, premise) => judge_abs(alloc, terms, contents, *variable, *premise),
-        Rule::Beta(term) => judge_term(alloc, terms, contents, TermRule::Beta, *term),
-        Rule::Assume(term) => judge_term(alloc, terms, contents, TermRule::Assume, *term),
-        Rule::EqMp(i, j) => judge_pair(alloc, terms, contents, PairRule::EqMp, *i, *j),
-        Rule::Deduct(i, j) => judge_pair(alloc, terms, contents, PairRule::Deduct, *i, *j),
-        Rule::Inst(premise, pairs) => judge_inst(alloc, terms, contents, *premise, pairs),
-        Rule::InstType(premise, pairs) => judge_inst_type(alloc, terms, contents, *premise, pairs),
-        Rule::Eta => judged(eta(alloc, terms)),
-        Rule::Select => judged(select(alloc, terms)),
-        Rule::Def(name, body) => {
-            judge_definition(alloc, terms, contents, name.as_bytes(), *body)
-        }
+        Rule::Refl(term) => judge_term(terms, contents, TermRule::Refl, *term),
+        Rule::Trans(i, j) => judge_pair(terms, contents, PairRule::Trans, *i, *j),
+        Rule::MkComb(i, j) => judge_pair(terms, contents, PairRule::MkComb, *i, *j),
+        Rule::Abs(variable, premise) => judge_abs(terms, contents, *variable, *premise),
+        Rule::Beta(term) => judge_term(terms, contents, TermRule::Beta, *term),
+        Rule::Assume(term) => judge_term(terms, contents, TermRule::Assume, *term),
+        Rule::EqMp(i, j) => judge_pair(terms, contents, PairRule::EqMp, *i, *j),
+        Rule::Deduct(i, j) => judge_pair(terms, contents, PairRule::Deduct, *i, *j),
+        Rule::Inst(premise, pairs) => judge_inst(terms, contents, *premise, pairs),
+        Rule::InstType(premise, pairs) => judge_inst_type(terms, contents, *premise, pairs),
+        Rule::Eta => judged(eta(terms)),
+        Rule::Select => judged(select(terms)),
+        Rule::Def(name, body) => judge_definition(terms, contents, name.as_bytes(), *body),
     }
 }
 
@@ -89,25 +81,18 @@ fn judged(taken: Result<Result<Theorem, Cause>, Fault>) -> Judged
 }
 
 // A step by a rule over a term.
-fn judge_term(
-    alloc: Global,
-    terms: &mut Terms,
-    contents: &Contents,
-    rule: TermRule,
-    term: u32,
-) -> Judged
+fn judge_term(terms: &mut Terms, contents: &Contents, rule: TermRule, term: u32) -> Judged
     requires contents { IsContents terms.old contents.now }
     requires made { IsMadeLine contents.now term }
     ensures { Judges (theorem_line (term_rule rule term)) contents.now terms.old result terms.new }
 {
     match term_at(contents, term) {
-        Some(term) => judged(take_term(alloc, terms, rule, term)),
+        Some(term) => judged(take_term(terms, rule, term)),
         None => Ok(Err(Cause::Number)),
     }
 }
 
 fn take_term(
-    alloc: Global,
     terms: &mut Terms,
     rule: TermRule,
     term: usize,
@@ -117,15 +102,14 @@ fn take_term(
     ensures grows { IsGrown terms.old terms.new }
 {
     match rule {
-        TermRule::Refl => refl(alloc, terms, term),
-        TermRule::Beta => beta(alloc, terms, term),
-        TermRule::Assume => assume(alloc, terms, term),
+        TermRule::Refl => refl(terms, term),
+        TermRule::Beta => beta(terms, term),
+        TermRule::Assume => assume(terms, term),
     }
 }
 
 // A step by a rule over two theorems.
 fn judge_pair(
-    alloc: Global,
     terms: &mut Terms,
     contents: &Contents,
     rule: PairRule,
@@ -136,13 +120,12 @@ fn judge_pair(
     ensures { Judges (theorem_line (pair_rule rule first second)) contents.now terms.old result terms.new }
 {
     match (theorem_at(contents, first), theorem_at(contents, second)) {
-        (Some(first), Some(second)) => judged(take_pair(alloc, terms, rule, first, second)),
+        (Some(first), Some(second)) => judged(take_pair(terms, rule, first, second)),
         _ => Ok(Err(Cause::Number)),
     }
 }
 
 fn take_pair(
-    alloc: Global,
     terms: &mut Terms,
     rule: PairRule,
     first: &Theorem,
@@ -154,37 +137,25 @@ fn take_pair(
     ensures grows { IsGrown terms.old terms.new }
 {
     match rule {
-        PairRule::Trans => trans(alloc, terms, first, second),
-        PairRule::MkComb => mk_comb(alloc, terms, first, second),
-        PairRule::EqMp => eq_mp(alloc, terms, first, second),
-        PairRule::Deduct => deduct(alloc, terms, first, second),
+        PairRule::Trans => trans(terms, first, second),
+        PairRule::MkComb => mk_comb(terms, first, second),
+        PairRule::EqMp => eq_mp(terms, first, second),
+        PairRule::Deduct => deduct(terms, first, second),
     }
 }
 
-fn judge_abs(
-    alloc: Global,
-    terms: &mut Terms,
-    contents: &Contents,
-    variable: u32,
-    premise: u32,
-) -> Judged
+fn judge_abs(terms: &mut Terms, contents: &Contents, variable: u32, premise: u32) -> Judged
     requires contents { IsContents terms.old contents.now }
     requires made { IsMadeLine contents.now variable }
     ensures { Judges (theorem_line (abs_step variable premise)) contents.now terms.old result terms.new }
 {
     match (term_at(contents, variable), theorem_at(contents, premise)) {
-        (Some(variable), Some(premise)) => judged(abs(alloc, terms, variable, premise)),
+        (Some(variable), Some(premise)) => judged(abs(terms, variable, premise)),
         _ => Ok(Err(Cause::Number)),
     }
 }
 
-fn judge_inst(
-    alloc: Global,
-    terms: &mut Terms,
-    contents: &Contents,
-    premise: u32,
-    pairs: &[(u32, u32)],
-) -> Judged
+fn judge_inst(terms: &mut Terms, contents: &Contents, premise: u32, pairs: &[(u32, u32)]) -> Judged
     requires contents { IsContents terms.old contents.now }
     requires made { All (IsMadePair contents.now) pairs.now }
     ensures { Judges (theorem_line (inst_step premise pairs.now)) contents.now terms.old result terms.new }
@@ -192,14 +163,13 @@ fn judge_inst(
     let Some(premise) = theorem_at(contents, premise) else {
         return Ok(Err(Cause::Number));
     };
-    let Some(pairs) = term_pairs(alloc, terms, contents, pairs)? else {
+    let Some(pairs) = term_pairs(terms, contents, pairs)? else {
         return Ok(Err(Cause::Number));
     };
-    judged(inst(alloc, terms, premise, &pairs))
+    judged(inst(terms, premise, &pairs))
 }
 
 fn judge_inst_type(
-    alloc: Global,
     terms: &mut Terms,
     contents: &Contents,
     premise: u32,
@@ -211,19 +181,13 @@ fn judge_inst_type(
     let Some(premise) = theorem_at(contents, premise) else {
         return Ok(Err(Cause::Number));
     };
-    let Some(pairs) = type_pairs(alloc, terms, contents, pairs)? else {
+    let Some(pairs) = type_pairs(terms, contents, pairs)? else {
         return Ok(Err(Cause::Number));
     };
-    judged(inst_type(alloc, terms, premise, &pairs))
+    judged(inst_type(terms, premise, &pairs))
 }
 
-fn judge_definition(
-    alloc: Global,
-    terms: &mut Terms,
-    contents: &Contents,
-    name: &[u8],
-    body: u32,
-) -> Judged
+fn judge_definition(terms: &mut Terms, contents: &Contents, name: &[u8], body: u32) -> Judged
     requires contents { IsContents terms.old contents.now }
     requires made { IsMadeLine contents.now body }
     ensures { Judges (theorem_line (definition_step name.now body)) contents.now terms.old result terms.new }
@@ -232,10 +196,10 @@ fn judge_definition(
         return Ok(Err(Cause::Number));
     };
     let is_legal = is_constant_name(name);
-    let Some(number) = new_name(alloc, terms, contents, name, is_legal)? else {
+    let Some(number) = new_name(terms, contents, name, is_legal)? else {
         return Ok(Err(Cause::Name));
     };
-    let given = match define(alloc, terms, number, body)? {
+    let given = match define(terms, number, body)? {
         Ok(given) => given,
         Err(cause) => return Ok(Err(cause)),
     };

@@ -9,11 +9,9 @@ ghost use Rattle.hol_check_rules.specs.StepPairs.{FindsTermPairs, FindsTypePairs
 use hol_check_rules::state::{Contents, term_at, type_at};
 use hol_check_terms::terms::Terms;
 use hol_model::Fault;
-use std::alloc::Global;
 
 /// The numbers in the tables of pairs of terms.
 pub(crate) fn term_pairs(
-    alloc: Global,
     terms: &Terms,
     contents: &Contents,
     lines: &[(u32, u32)],
@@ -23,7 +21,7 @@ pub(crate) fn term_pairs(
     ensures found { IfOk result (FindsTermPairs (state_of terms.now contents.now) lines.now terms.now.terms) }
     ensures refused { IfErr result (λ fault. fault ≡ Memory) }
 {
-    let mut pairs = Vec::new(alloc);
+    let mut pairs = Vec::new(terms.alloc());
     for line in lines {
         let (Some(new), Some(old)) = (term_at(contents, line.0), term_at(contents, line.1)) else {
             return Ok(None);
@@ -35,7 +33,6 @@ pub(crate) fn term_pairs(
 
 /// The numbers in the tables of pairs of types.
 pub(crate) fn type_pairs(
-    alloc: Global,
     terms: &Terms,
     contents: &Contents,
     lines: &[(u32, u32)],
@@ -44,7 +41,7 @@ pub(crate) fn type_pairs(
     ensures found { IfOk result (FindsTypePairs (state_of terms.now contents.now) lines.now terms.now.types) }
     ensures refused { IfErr result (λ fault. fault ≡ Memory) }
 {
-    let mut pairs = Vec::new(alloc);
+    let mut pairs = Vec::new(terms.alloc());
     for line in lines {
         let (Some(new), Some(old)) = (type_at(contents, line.0), type_at(contents, line.1)) else {
             return Ok(None);

@@ -14,23 +14,22 @@ use crate::named::make_named;
 use hol_check_rules::state::Contents;
 use hol_logtext::Line;
 use hol_model::{Cause, Fault};
-use std::alloc::Global;
 
 /// Takes a line, or answers the first cause for which it is refused. After a refusal the log has no use. Terms are made
 /// where a step or a claim names them, so memory may be used up there in place of at their own lines.
-pub fn take(alloc: Global, log: &mut Log, line: &Line<'_>) -> Result<Result<(), Cause>, Fault>
+pub fn take(log: &mut Log, line: &Line<'_>) -> Result<Result<(), Cause>, Fault>
     ensures taken { IfOk result (IsTaken log.old (line_of line.now) log.new) }
     ensures refused { IfErr result (λ fault. fault ≡ Memory) }
 {
-    make_named(alloc, &mut log.table, &mut log.contents, line)?;
-    let addition = match judge(alloc, &mut log.table, &log.contents, line)? {
+    make_named(&mut log.table, &mut log.contents, line)?;
+    let addition = match judge(&mut log.table, &log.contents, line)? {
         Ok(addition) => addition,
         Err(cause) => return Ok(Err(cause)),
     };
     if ends_wrongly(&log.contents, line) {
         return Ok(Err(Cause::End));
     }
-    add(alloc, &mut log.contents, addition)?;
+    add(log.table.alloc(), &mut log.contents, addition)?;
     Ok(Ok(()))
 }
 

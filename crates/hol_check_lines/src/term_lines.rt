@@ -17,16 +17,9 @@ use hol_check_written::written::{
     Written, WrittenShape, write_abstraction, write_combination, write_constant, write_variable,
 };
 use hol_model::{Cause, Fault, is_constant_name, is_identifier};
-use std::alloc::Global;
 
 /// A variable: `number` where its type is not there, `name` where its name is no identifier.
-pub(crate) fn judge_variable(
-    alloc: Global,
-    terms: &mut Terms,
-    contents: &Contents,
-    name: &[u8],
-    ty: u32,
-) -> Judged
+pub(crate) fn judge_variable(terms: &mut Terms, contents: &Contents, name: &[u8], ty: u32) -> Judged
     requires { IsContents terms.old contents.now }
     ensures { Judges (variable_line name.now ty) contents.now terms.old result terms.new }
 {
@@ -36,19 +29,13 @@ pub(crate) fn judge_variable(
     if !is_identifier(name) {
         return Ok(Err(Cause::Name));
     }
-    let number = variable(alloc, terms, name, named)?;
-    judge_written(write_variable(alloc, terms, number))
+    let number = variable(terms, name, named)?;
+    judge_written(write_variable(terms, number))
 }
 
 /// A constant: `number` where its type is not there, `name` where its name is none of a constant, `const` where it is
 /// not known at that type.
-pub(crate) fn judge_constant(
-    alloc: Global,
-    terms: &mut Terms,
-    contents: &Contents,
-    name: &[u8],
-    ty: u32,
-) -> Judged
+pub(crate) fn judge_constant(terms: &mut Terms, contents: &Contents, name: &[u8], ty: u32) -> Judged
     requires { IsContents terms.old contents.now }
     ensures { Judges (constant_line name.now ty) contents.now terms.old result terms.new }
 {
@@ -58,12 +45,12 @@ pub(crate) fn judge_constant(
     if !is_constant_name(name) {
         return Ok(Err(Cause::Name));
     }
-    let number = terms.name(alloc, name)?;
+    let number = terms.name(name)?;
     if !knows_constant(terms, &contents.known, number, named) {
         return Ok(Err(Cause::Const));
     }
     let constant = terms.constant(number, named)?;
-    judge_written(write_constant(alloc, terms, constant))
+    judge_written(write_constant(terms, constant))
 }
 
 /// A combination: `number` where a part is not there, `type` where the function does not take the argument, `large`

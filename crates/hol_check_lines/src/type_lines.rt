@@ -8,22 +8,16 @@ use hol_check_rules::known::is_declared;
 use hol_check_rules::state::{Addition, Contents, is_of_first_version, type_at};
 use hol_check_terms::terms::Terms;
 use hol_model::{Cause, Fault, is_declared_type_name, is_type_variable_name};
-use std::alloc::Global;
 
 /// A type variable: `name` where the name is none of a type variable.
-pub(crate) fn judge_type_variable(
-    alloc: Global,
-    terms: &mut Terms,
-    contents: &Contents,
-    name: &[u8],
-) -> Judged
+pub(crate) fn judge_type_variable(terms: &mut Terms, contents: &Contents, name: &[u8]) -> Judged
     requires { IsContents terms.old contents.now }
     ensures { Judges (type_variable_line name.now) contents.now terms.old result terms.new }
 {
     if !is_type_variable_name(name) {
         return Ok(Err(Cause::Name));
     }
-    let number = terms.type_variable(alloc, name)?;
+    let number = terms.type_variable(name)?;
     Ok(Ok(Addition::TypeNumber(number)))
 }
 
@@ -60,12 +54,7 @@ pub(crate) fn judge_function_type(
 
 /// A declared type: `shape` in a log of the first version, `name` where the name is none of a declared type, `type`
 /// where no such type was declared.
-pub(crate) fn judge_declared_type(
-    alloc: Global,
-    terms: &mut Terms,
-    contents: &Contents,
-    name: &[u8],
-) -> Judged
+pub(crate) fn judge_declared_type(terms: &mut Terms, contents: &Contents, name: &[u8]) -> Judged
     requires { IsContents terms.old contents.now }
     ensures { Judges (declared_type_line name.now) contents.now terms.old result terms.new }
 {
@@ -75,10 +64,10 @@ pub(crate) fn judge_declared_type(
     if !is_declared_type_name(name) {
         return Ok(Err(Cause::Name));
     }
-    let number = terms.name(alloc, name)?;
+    let number = terms.name(name)?;
     if !is_declared(terms, &contents.known, number) {
         return Ok(Err(Cause::Kind));
     }
-    let ty = terms.declared_type(alloc, name)?;
+    let ty = terms.declared_type(name)?;
     Ok(Ok(Addition::TypeNumber(ty)))
 }

@@ -20,12 +20,7 @@ use std::alloc::Global;
 use std::cmp::Ordering;
 
 /// The terms of two ordered lists in order, each once.
-pub(crate) fn union(
-    alloc: Global,
-    terms: &Terms,
-    first: &[usize],
-    second: &[usize],
-) -> Result<Vec<usize>, Fault>
+pub(crate) fn union(terms: &Terms, first: &[usize], second: &[usize]) -> Result<Vec<usize>, Fault>
     requires first { All (IsFitting terms.now.terms) first.now }
     requires second { All (IsFitting terms.now.terms) second.now }
     requires first_ordered { AreOrdered (terms_in terms.now.terms first.now) }
@@ -33,7 +28,7 @@ pub(crate) fn union(
     ensures all { IfOk result (λ all. AreInOrder terms.now.terms all.items (terms_in terms.now.terms first.now ++ terms_in terms.now.terms second.now)) }
     ensures refused { IfErr result (λ fault. fault ≡ Memory) }
 {
-    let mut all = Vec::new(alloc);
+    let mut all = Vec::new(terms.alloc());
     let mut left = 0;
     let mut right = 0;
     while left < first.len() && right < second.len() {
@@ -61,18 +56,18 @@ pub(crate) fn union(
 }
 
 /// The terms of a list in order, each once.
-pub fn set_of(alloc: Global, terms: &Terms, list: &[usize]) -> Result<Vec<usize>, Fault>
+pub fn set_of(terms: &Terms, list: &[usize]) -> Result<Vec<usize>, Fault>
     requires { All (IsFitting terms.now.terms) list.now }
     ensures all { IfOk result (λ all. AreInOrder terms.now.terms all.items (terms_in terms.now.terms list.now)) }
     ensures refused { IfErr result (λ fault. fault ≡ Memory) }
 {
     if list.len() < 2 {
-        return copied(alloc, list);
+        return copied(terms.alloc(), list);
     }
     let (left, right) = list.split_at(list.len() / 2);
-    let left = set_of(alloc, terms, left)?;
-    let right = set_of(alloc, terms, right)?;
-    union(alloc, terms, &left, &right)
+    let left = set_of(terms, left)?;
+    let right = set_of(terms, right)?;
+    union(terms, &left, &right)
 }
 
 // The numbers of a list.
@@ -86,12 +81,7 @@ fn copied(alloc: Global, list: &[usize]) -> Result<Vec<usize>, Fault>
 }
 
 /// The list without a term.
-pub(crate) fn without(
-    alloc: Global,
-    terms: &Terms,
-    term: usize,
-    list: &[usize],
-) -> Result<Vec<usize>, Fault>
+pub(crate) fn without(terms: &Terms, term: usize, list: &[usize]) -> Result<Vec<usize>, Fault>
     requires term { IsFitting terms.now.terms term }
     requires list { All (IsFitting terms.now.terms) list.now }
     requires ordered { AreOrdered (terms_in terms.now.terms list.now) }
@@ -100,7 +90,7 @@ pub(crate) fn without(
     ensures ordered { IfOk result (λ others. AreOrdered (terms_in terms.now.terms others.items)) }
     ensures refused { IfErr result (λ fault. fault ≡ Memory) }
 {
-    let mut others = Vec::new(alloc);
+    let mut others = Vec::new(terms.alloc());
     for other in list {
         if !terms.is_same(*other, term) {
             others.push(*other)?;
@@ -110,19 +100,14 @@ pub(crate) fn without(
 }
 
 /// Whether a variable is free in one of the terms.
-pub(crate) fn is_free_in_any(
-    alloc: Global,
-    terms: &Terms,
-    variable: usize,
-    list: &[usize],
-) -> Result<bool, Fault>
+pub(crate) fn is_free_in_any(terms: &Terms, variable: usize, list: &[usize]) -> Result<bool, Fault>
     requires variable { IsVariable terms.now.terms variable }
     requires list { All (IsFitting terms.now.terms) list.now }
     ensures found { IfOk result (λ found. found ≡ faults.is_free_in_any (term_at terms.now.terms variable) (terms_in terms.now.terms list.now)) }
     ensures refused { IfErr result (λ fault. fault ≡ Memory) }
 {
     for number in list {
-        let found = occurs_free(alloc, terms, variable, *number)?;
+        let found = occurs_free(terms, variable, *number)?;
         if found {
             return Ok(true);
         }

@@ -11,21 +11,15 @@ use crate::numbers::{is_noted, note};
 use crate::terms::{TermShape, Terms};
 use hol_model::Fault;
 use indexmap::IndexSet;
-use std::alloc::Global;
 
 /// Whether a variable is free in a term. Each part is gone through once.
-pub fn occurs_free(
-    alloc: Global,
-    terms: &Terms,
-    variable: usize,
-    number: usize,
-) -> Result<bool, Fault>
+pub fn occurs_free(terms: &Terms, variable: usize, number: usize) -> Result<bool, Fault>
     requires number { number < length terms.now.terms }
     ensures found { (name : List ℕ) (ty : HolType) → slice_get terms.now.terms variable ≡ Some (free name ty)
         → IfOk result (λ occurs. occurs ≡ substitution.occurs_free name ty (term_at terms.now.terms number)) }
     ensures refused { IfErr result (λ fault. fault ≡ Memory) }
 {
-    let mut absent = IndexSet::new(alloc);
+    let mut absent = IndexSet::new(terms.alloc());
     occurs_in(terms, &mut absent, variable, number)
 }
 

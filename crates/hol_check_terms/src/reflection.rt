@@ -11,16 +11,15 @@ use crate::terms::{TermShape, Terms};
 use crate::types::TypeShape;
 use hol_model::Fault;
 use indexmap::IndexSet;
-use std::alloc::Global;
 
 /// Whether each type variable of the types in a term stands in a type. Each part is gone through once.
-pub fn reflects(alloc: Global, terms: &Terms, whole: usize, number: usize) -> Result<bool, Fault>
+pub fn reflects(terms: &Terms, whole: usize, number: usize) -> Result<bool, Fault>
     requires whole { whole < length terms.now.types }
     requires number { number < length terms.now.terms }
     ensures reflects { IfOk result (λ answer. answer ≡ reflects_nameless (type_at terms.now.types whole) (term_at terms.now.terms number)) }
     ensures refused { IfErr result (λ fault. fault ≡ Memory) }
 {
-    let mut seen = IndexSet::new(alloc);
+    let mut seen = IndexSet::new(terms.alloc());
     reflects_in(terms, &mut seen, whole, number)
 }
 

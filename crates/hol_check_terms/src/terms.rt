@@ -46,6 +46,7 @@ pub struct TermNode {
 /// Of terms that need no binders around them, the types that were worked out are kept.
 #[derive(Drop)]
 pub struct Terms {
+    alloc: Global,
     types: Types,
     nodes: IndexSet<TermNode>,
     typed: IndexMap<usize, usize>,
@@ -76,23 +77,16 @@ impl Terms {
         ensures terms { result.terms ≡ [] }
     {
         Terms {
+            alloc,
             types: Types::new(alloc),
             nodes: IndexSet::new(alloc),
             typed: IndexMap::new(alloc),
         }
     }
 
-    /// No terms yet, over names and types.
-    pub(crate) fn over(alloc: Global, types: Types) -> Terms
-        ensures names { result.names ≡ types.names }
-        ensures types { result.types ≡ types.types }
-        ensures terms { result.terms ≡ [] }
-    {
-        Terms {
-            types,
-            nodes: IndexSet::new(alloc),
-            typed: IndexMap::new(alloc),
-        }
+    /// The allocator, for what is made beside names, types and terms.
+    pub fn alloc(&self) -> Global {
+        self.alloc
     }
 
     // The number of a term, which is put at the end if it is new.
@@ -321,12 +315,12 @@ impl Terms {
     }
 
     /// The number of a name.
-    pub fn name(&mut self, alloc: Global, name: &[u8]) -> Result<usize, Fault>
+    pub fn name(&mut self, name: &[u8]) -> Result<usize, Fault>
         ensures number { IfOk result (λ number. slice_get self.new.names number ≡ Some name.now) }
         ensures refused { IfErr result (λ fault. fault ≡ Memory) }
         ensures grows { IsGrown self.old self.new }
     {
-        self.types.name(alloc, name)
+        self.types.name(self.alloc, name)
     }
 
     /// Whether two numbers are those of one name.
@@ -365,21 +359,21 @@ impl Terms {
     }
 
     /// The type variable of a name.
-    pub fn type_variable(&mut self, alloc: Global, name: &[u8]) -> Result<usize, Fault>
+    pub fn type_variable(&mut self, name: &[u8]) -> Result<usize, Fault>
         ensures number { IfOk result (λ number. slice_get self.new.types number ≡ Some (type_variable name.now)) }
         ensures refused { IfErr result (λ fault. fault ≡ Memory) }
         ensures grows { IsGrown self.old self.new }
     {
-        self.types.variable(alloc, name)
+        self.types.variable(self.alloc, name)
     }
 
     /// The declared type of a name.
-    pub fn declared_type(&mut self, alloc: Global, name: &[u8]) -> Result<usize, Fault>
+    pub fn declared_type(&mut self, name: &[u8]) -> Result<usize, Fault>
         ensures number { IfOk result (λ number. slice_get self.new.types number ≡ Some (declared_type name.now)) }
         ensures refused { IfErr result (λ fault. fault ≡ Memory) }
         ensures grows { IsGrown self.old self.new }
     {
-        self.types.declared(alloc, name)
+        self.types.declared(self.alloc, name)
     }
 
     /// The type of functions from a type to a type, refused where it has more nodes than a type may have.

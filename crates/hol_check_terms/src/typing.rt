@@ -18,7 +18,7 @@ use std::alloc::{AllocError, Global};
 
 /// The type of a term, refused where it is past the limits, which count the type of each of its parts. Each part is gone
 /// through once for the binders around it.
-pub fn type_of(alloc: Global, terms: &mut Terms, number: usize) -> Result<usize, Fault>
+pub fn type_of(terms: &mut Terms, number: usize) -> Result<usize, Fault>
     requires number { number < length terms.old.terms }
     ensures number { IfOk result (λ ty. slice_get terms.new.types ty ≡ Some (nameless_type [] (term_at terms.old.terms number))) }
     ensures within_limits { IfOk result (λ _. nameless_within_limits (term_at terms.old.terms number) ≡ true) }
@@ -26,15 +26,14 @@ pub fn type_of(alloc: Global, terms: &mut Terms, number: usize) -> Result<usize,
     ensures grows { IsGrown terms.old terms.new }
 {
     let (_height, _nodes) = terms.size(number);
-    let mut known = IndexMap::new(alloc);
-    type_under(alloc, terms, &mut known, &[], number)
+    let mut known = IndexMap::new(terms.alloc());
+    type_under(terms, &mut known, &[], number)
 }
 
 // The same of a part that stands under binders of these types, the innermost first, with the types that were worked out for
 // parts under these binders.
 #[cycle(type_under)]
 fn type_under(
-    alloc: Global,
     terms: &mut Terms,
     known: &mut IndexMap<usize, usize>,
     binders: &[usize],
@@ -64,8 +63,8 @@ fn type_under(
             if let Some(ty) = recall_type(known, number) {
                 return Ok(ty);
             }
-            let function_ty = type_under(alloc, terms, known, &*binders, function)?;
-            type_under(alloc, terms, known, &*binders, argument)?;
+            let function_ty = type_under(terms, known, &*binders, function)?;
+            type_under(terms, known, &*binders, argument)?;
             let ty = codomain(terms, function_ty)?;
             keep(terms, known, number, ty)
         }
@@ -73,7 +72,7 @@ fn type_under(
             if let Some(ty) = recall_type(known, number) {
                 return Ok(ty);
             }
-            let body_ty = type_of_body(alloc, terms, &*binders, ty, body)?;
+            let body_ty = type_of_body(terms, &*binders, ty, body)?;
             let whole = terms.function_type(ty, body_ty)?;
             keep(terms, known, number, whole)
         }
@@ -83,7 +82,6 @@ fn type_under(
 // The type of the body of an abstraction that stands under binders.
 #[cycle(type_under)]
 fn type_of_body(
-    alloc: Global,
     terms: &mut Terms,
     binders: &[usize],
     ty: usize,
@@ -95,9 +93,9 @@ fn type_of_body(
     ensures typed { AnswersTyping (type_at terms.old.types ty ∷ binder_types terms.old.types binders.now) (term_at terms.old.terms body) result terms.new.types }
     ensures grows { IsGrown terms.old terms.new }
 {
-    let inside = one_more(alloc, ty, &*binders)?;
-    let mut known = IndexMap::new(alloc);
-    type_under(alloc, terms, &mut known, &inside, body)
+    let inside = one_more(terms.alloc(), ty, &*binders)?;
+    let mut known = IndexMap::new(terms.alloc());
+    type_under(terms, &mut known, &inside, body)
 }
 
 // The numbers of a type and then of the types of the binders around it.

@@ -18,7 +18,6 @@ use crate::written::{Written, WrittenShape, variable_type};
 use hol_check_terms::terms::Terms;
 use hol_model::{Fault, TERM_HEIGHT_LIMIT};
 use indexmap::IndexMap;
-use std::alloc::Global;
 
 /// The binders around a part, the innermost first: the number of a binder's variable, and variables among which are
 /// those of this binder and of all outside it.
@@ -107,7 +106,6 @@ fn keep_made(
 // lines are within the limits, so that only memory refuses it.
 #[cycle(number_under)]
 fn number_under(
-    alloc: Global,
     terms: &mut Terms,
     made: &mut IndexMap<usize, usize>,
     known: &mut IndexMap<usize, usize>,
@@ -129,17 +127,13 @@ fn number_under(
         WrittenShape::Variable(number) => variable_under(terms, &*binders, number),
         WrittenShape::Constant(number) => Ok(number),
         WrittenShape::Application(function, argument) => {
-            let new_function = number_under(
-                alloc, terms, made, known, written, &*binders, function,
-            )?;
-            let new_argument = number_under(
-                alloc, terms, made, known, written, &*binders, argument,
-            )?;
+            let new_function = number_under(terms, made, known, written, &*binders, function)?;
+            let new_argument = number_under(terms, made, known, written, &*binders, argument)?;
             let whole = terms.application(new_function, new_argument);
             keep_made(made, known, is_apart, line, whole)
         }
         WrittenShape::Abstraction(binder, body) => {
-            let new_body = number_of_body(alloc, terms, made, written, &*binders, binder, body)?;
+            let new_body = number_of_body(terms, made, written, &*binders, binder, body)?;
             let ty = variable_type(terms, binder);
             let whole = terms.abstraction(ty, new_body);
             keep_made(made, known, is_apart, line, whole)
@@ -150,7 +144,6 @@ fn number_under(
 // The same of the body of an abstraction that stands under binders.
 #[cycle(number_under)]
 fn number_of_body(
-    alloc: Global,
     terms: &mut Terms,
     made: &mut IndexMap<usize, usize>,
     written: &[Written],
@@ -166,9 +159,8 @@ fn number_of_body(
         made.old.entries made.new.entries [] result }
 {
     let covers = joined(one_variable(binder), covered(&*binders));
-    let mut known = IndexMap::new(alloc);
+    let mut known = IndexMap::new(terms.alloc());
     number_under(
-        alloc,
         terms,
         made,
         &mut known,
@@ -180,7 +172,6 @@ fn number_of_body(
 
 // The number of the term that a line writes.
 fn number_of(
-    alloc: Global,
     terms: &mut Terms,
     made: &mut IndexMap<usize, usize>,
     written: &[Written],
@@ -191,21 +182,12 @@ fn number_of(
     requires made { AreMade terms.old written.now made.old.entries }
     ensures { Numbers written.now [] line terms.old terms.new made.old.entries made.new.entries [] result }
 {
-    let mut known = IndexMap::new(alloc);
-    number_under(
-        alloc,
-        terms,
-        made,
-        &mut known,
-        written,
-        &Binders::Outermost,
-        line,
-    )
+    let mut known = IndexMap::new(terms.alloc());
+    number_under(terms, made, &mut known, written, &Binders::Outermost, line)
 }
 
 /// Makes the term that a line writes, unless it was made. Memory may be used up here that its line did not need.
 pub fn make(
-    alloc: Global,
     terms: &mut Terms,
     made: &mut IndexMap<usize, usize>,
     written: &[Written],
@@ -220,7 +202,7 @@ pub fn make(
     ensures stays { Stays made.old.entries made.new.entries }
     ensures grows { IsGrown terms.old terms.new }
 {
-    let number = number_of(alloc, terms, made, written, line)?;
+    let number = number_of(terms, made, written, line)?;
     note(made, line, number)?;
     Ok(())
 }

@@ -15,7 +15,6 @@ use hol_check_terms::terms::{TermShape, Terms};
 use hol_check_terms::types::TypeShape;
 use hol_check_terms::typing::type_of;
 use hol_model::{Fault, TERM_HEIGHT_LIMIT, TERM_NODES_LIMIT};
-use std::alloc::Global;
 
 /// How a line builds a term: of a variable or a constant of the tables, or of the terms of earlier lines.
 #[derive(Clone, Copy)]
@@ -39,11 +38,11 @@ pub struct Written {
 }
 
 /// A variable by its number in the tables, refused where its type is past the limit.
-pub fn write_variable(alloc: Global, terms: &mut Terms, number: usize) -> Result<Written, Fault>
+pub fn write_variable(terms: &mut Terms, number: usize) -> Result<Written, Fault>
     requires { IsFree terms.old.terms number }
     ensures { AnswersWritten (named.variable (variable_name (term_at terms.old.terms number)) (term_type (term_at terms.old.terms number))) (shape.Variable number) result terms.old terms.new }
 {
-    let ty = type_of(alloc, terms, number)?;
+    let ty = type_of(terms, number)?;
     Ok(Written {
         shape: WrittenShape::Variable(number),
         ty,
@@ -54,11 +53,11 @@ pub fn write_variable(alloc: Global, terms: &mut Terms, number: usize) -> Result
 }
 
 /// A constant by its number in the tables, refused where its type is past the limit.
-pub fn write_constant(alloc: Global, terms: &mut Terms, number: usize) -> Result<Written, Fault>
+pub fn write_constant(terms: &mut Terms, number: usize) -> Result<Written, Fault>
     requires { IsConstant terms.old.terms number }
     ensures { AnswersWritten (named_constant (term_at terms.old.terms number)) (shape.Constant number) result terms.old terms.new }
 {
-    let ty = type_of(alloc, terms, number)?;
+    let ty = type_of(terms, number)?;
     Ok(Written {
         shape: WrittenShape::Constant(number),
         ty,

@@ -1,5 +1,5 @@
 -- What is asked before a refiner runs.
-use Rattle.std.specs.Prelude.{List}
+use Rattle.std.specs.Prelude.{◌≡◌, List}
 use Rattle.hol_model.specs.Logic.Theory.{Theory}
 use Rattle.hol_model.specs.Goals.Goals.{Goal}
 use Rattle.hol_model.specs.Goals.Replays.{Store, IsStoreOver, IsKnownGoal, AreKnownGoals}
@@ -22,3 +22,9 @@ pub record ArePosed (theory : Theory) (store : Store) (AreKnown : Theory → Typ
   pub grounded : IsGrounded theory store
   pub witnesses : AreKnown theory
   pub known : AreKnownGoals theory goals
+
+-- what a run keeps: the theory, and what its caller knows of what stands in front of the refiners without parts
+pub record IsKept (old new : Theory) (IsReady Extends : Type 0) : Type 0 where
+  pub theory : new ≡ old
+  pub ready : IsReady
+  pub extends : Extends

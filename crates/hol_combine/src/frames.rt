@@ -121,20 +121,7 @@ pub(crate) fn resume(stack: &mut Vec<Frame>, frame: Frame, made: Step) -> Result
     ensures ok { OnOk result (frames_of stack.new.items ≡ with_done (frame_of frame) (step_of made) ∷ frames_of stack.old.items) }
     ensures err { IfErr result (λ fault. fault ≡ Memory) }
 {
-    let Frame {
-        just,
-        goals,
-        mut done,
-        above,
-    } = frame;
-    keep(&mut done, made)?;
-    push(
-        stack,
-        Frame {
-            just,
-            goals,
-            done,
-            above,
-        },
-    )
+    let mut frame = frame;
+    keep(&mut frame.done, made)?;
+    push(stack, frame)
 }

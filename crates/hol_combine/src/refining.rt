@@ -9,7 +9,7 @@ ghost use Rattle.hol_combine.specs.Posed.{IsPosed};
 ghost use Rattle.hol_combine.specs.Answers.{Refines};
 
 use crate::leaves::Leaves;
-use crate::running::run;
+use crate::running::{Setting, run};
 use hol_host::Refiners;
 use hol_just::{Goal, Step};
 use hol_model::Fault;
@@ -42,5 +42,5 @@ pub fn refine_goal<H: Refiners, L: Leaves>(
     ensures ready { L.is_ready leaves.new }
     ensures extends { L.extends leaves.old leaves.new }
 {
-    run(alloc, tac, goal, host, leaves, fuel)
+    run(&Setting { alloc, host }, tac, goal, leaves, fuel)
 }

@@ -4,7 +4,7 @@ ghost use Rattle.hol_model.specs.Goals.Replays.{IsKnownGoal};
 ghost use Rattle.hol_model.specs.Refining.RefinerConditions.{HaveKnownWitnesses, HasKnownWitnesses, HasKnownWitnessesInLink, HaveKnownWitnessesInLinks};
 ghost use Rattle.hol_tactic_exprs.specs.Expressions.{tactic_of, tactics_of, link_of, links_of};
 ghost use Rattle.hol_just.specs.Steps.{goal_of, goals_of};
-ghost use Rattle.hol_combine.specs.Posed.{IsPosed, ArePosed};
+ghost use Rattle.hol_combine.specs.Posed.{IsPosed, ArePosed, IsKept};
 ghost use Rattle.hol_combine.specs.Answers.{Refines, HostRefines, Repeats, GoesOn, Chains, LinkRefines, AllRefine, EachRefines};
 ghost use Rattle.hol_combine.specs.Repeating.{OnceRefines};
 
@@ -18,25 +18,29 @@ use hol_tactic_exprs::{Fuel, Leaf, Link, Tac, is_caught};
 use hol_terms::Term;
 use std::alloc::Global;
 
+/// What stays while an expression runs.
+#[derive(Drop)]
+pub(crate) struct Setting<'a, H> {
+    pub(crate) alloc: Global,
+    pub(crate) host: &'a H,
+}
+
 // Runs a host's refiner, and takes its step only where it is accepted.
 fn run_host<H: Refiners, L: Leaves>(
-    alloc: Global,
+    setting: &Setting<'_, H>,
     name: &str,
     goal: &Goal,
-    host: &H,
     leaves: &mut L,
     fuel: &mut Fuel,
 ) -> Result<Step, Fault>
     requires ready { L.is_ready leaves.old }
-    ensures outcome { HostRefines (H.refiners host.now) (H.conversions host.now) (L.theory leaves.old) (L.store leaves.old) fuel.old.left name.now goal.now result (L.store leaves.new) fuel.new.left }
-    ensures theory { L.theory leaves.new ≡ L.theory leaves.old }
-    ensures ready { L.is_ready leaves.new }
-    ensures extends { L.extends leaves.old leaves.new }
+    ensures outcome { HostRefines (H.refiners setting.now.host.now) (H.conversions setting.now.host.now) (L.theory leaves.old) (L.store leaves.old) fuel.old.left name.now goal.now result (L.store leaves.new) fuel.new.left }
+    ensures kept { IsKept (L.theory leaves.old) (L.theory leaves.new) (L.is_ready leaves.new) (L.extends leaves.old leaves.new) }
 {
     if !fuel.spend() {
         return Err(Fault::StepLimit);
     }
-    let Some(answer) = host.refine(alloc, name, goal) else {
+    let Some(answer) = setting.host.refine(setting.alloc, name, goal) else {
         return Err(Fault::UnknownName);
     };
     let step = match answer {
@@ -44,8 +48,8 @@ fn run_host<H: Refiners, L: Leaves>(
         Err(HostFail::Failed) => return Err(Fault::RefineFails),
         Err(HostFail::Memory) => return Err(Fault::Memory),
     };
-    match leaves.accept(alloc, goal, &step) {
-        Ok(()) => bounded(alloc, step),
+    match leaves.accept(setting.alloc, goal, &step) {
+        Ok(()) => bounded(setting.alloc, step),
         Err(fault) => Err(fault),
     }
 }
@@ -53,39 +57,36 @@ fn run_host<H: Refiners, L: Leaves>(
 /// Runs an expression on a goal.
 #[cycle(run)]
 pub(crate) fn run<H: Refiners, L: Leaves>(
-    alloc: Global,
+    setting: &Setting<'_, H>,
     tac: &Tac<Term>,
     goal: &Goal,
-    host: &H,
     leaves: &mut L,
     fuel: &mut Fuel,
 ) -> Result<Step, Fault>
     requires ready { L.is_ready leaves.old }
     requires posed { IsPosed (L.theory leaves.old) (L.store leaves.old) (tactic_of tac.now) (goal_of goal.now) }
-    ensures outcome { Refines (H.refiners host.now) (H.conversions host.now) (L.theory leaves.old) (L.store leaves.old) fuel.old.left tac.now goal.now result (L.store leaves.new) fuel.new.left }
-    ensures theory { L.theory leaves.new ≡ L.theory leaves.old }
-    ensures ready { L.is_ready leaves.new }
-    ensures extends { L.extends leaves.old leaves.new }
+    ensures outcome { Refines (H.refiners setting.now.host.now) (H.conversions setting.now.host.now) (L.theory leaves.old) (L.store leaves.old) fuel.old.left tac.now goal.now result (L.store leaves.new) fuel.new.left }
+    ensures kept { IsKept (L.theory leaves.old) (L.theory leaves.new) (L.is_ready leaves.new) (L.extends leaves.old leaves.new) }
 {
     match tac {
-        Tac::Leaf(leaf) => leaves.refine(alloc, leaf, goal, host, fuel),
-        Tac::Host(name) => run_host(alloc, name, goal, host, leaves, fuel),
-        Tac::Chain(first, links) => match run(alloc, first, goal, host, leaves, fuel) {
-            Ok(step) => run_links(alloc, step, links, host, leaves, fuel),
+        Tac::Leaf(leaf) => leaves.refine(setting.alloc, leaf, goal, setting.host, fuel),
+        Tac::Host(name) => run_host(setting, name, goal, leaves, fuel),
+        Tac::Chain(first, links) => match run(setting, first, goal, leaves, fuel) {
+            Ok(step) => run_links(setting, step, links, leaves, fuel),
             Err(fault) => Err(fault),
         },
-        Tac::OrElse(first, others) => match run(alloc, first, goal, host, leaves, fuel) {
+        Tac::OrElse(first, others) => match run(setting, first, goal, leaves, fuel) {
             Ok(step) => Ok(step),
-            Err(fault) => run_others(alloc, fault, others, goal, host, leaves, fuel),
+            Err(fault) => run_others(setting, fault, others, goal, leaves, fuel),
         },
-        Tac::Repeat(again) => run_repeat(alloc, again, goal, host, leaves, fuel),
-        Tac::Try(first) => match run(alloc, first, goal, host, leaves, fuel) {
+        Tac::Repeat(again) => run_repeat(setting, again, goal, leaves, fuel),
+        Tac::Try(first) => match run(setting, first, goal, leaves, fuel) {
             Ok(step) => Ok(step),
             Err(fault) => {
                 if !is_caught(&fault) {
                     return Err(fault);
                 }
-                leaves.refine(alloc, &Leaf::All, goal, host, fuel)
+                leaves.refine(setting.alloc, &Leaf::All, goal, setting.host, fuel)
             }
         },
     }
@@ -102,27 +103,24 @@ enum Once {
 // Runs an expression on a goal once for REPEAT.
 #[cycle(run)]
 fn run_once<H: Refiners, L: Leaves>(
-    alloc: Global,
+    setting: &Setting<'_, H>,
     again: &Tac<Term>,
     goal: &Goal,
-    host: &H,
     leaves: &mut L,
     fuel: &mut Fuel,
 ) -> Once
     requires ready { L.is_ready leaves.old }
     requires posed { IsPosed (L.theory leaves.old) (L.store leaves.old) (tactic_of again.now) (goal_of goal.now) }
-    ensures outcome { OnceRefines (H.refiners host.now) (H.conversions host.now) (L.theory leaves.old) (L.store leaves.old) fuel.old.left again.now goal.now result (L.store leaves.new) fuel.new.left }
-    ensures theory { L.theory leaves.new ≡ L.theory leaves.old }
-    ensures ready { L.is_ready leaves.new }
-    ensures extends { L.extends leaves.old leaves.new }
+    ensures outcome { OnceRefines (H.refiners setting.now.host.now) (H.conversions setting.now.host.now) (L.theory leaves.old) (L.store leaves.old) fuel.old.left again.now goal.now result (L.store leaves.new) fuel.new.left }
+    ensures kept { IsKept (L.theory leaves.old) (L.theory leaves.new) (L.is_ready leaves.new) (L.extends leaves.old leaves.new) }
 {
-    match run(alloc, again, goal, host, leaves, fuel) {
+    match run(setting, again, goal, leaves, fuel) {
         Ok(step) => Once::Refined(step),
         Err(fault) => {
             if !is_caught(&fault) {
                 return Once::Refused(fault);
             }
-            match leaves.refine(alloc, &Leaf::All, goal, host, fuel) {
+            match leaves.refine(setting.alloc, &Leaf::All, goal, setting.host, fuel) {
                 Ok(step) => Once::Stays(step),
                 Err(fault) => Once::Refused(fault),
             }
@@ -133,32 +131,29 @@ fn run_once<H: Refiners, L: Leaves>(
 // Runs an expression on a goal, and on what is left of it, until it is refused there.
 #[cycle(run)]
 fn run_repeat<H: Refiners, L: Leaves>(
-    alloc: Global,
+    setting: &Setting<'_, H>,
     again: &Tac<Term>,
     goal: &Goal,
-    host: &H,
     leaves: &mut L,
     fuel: &mut Fuel,
 ) -> Result<Step, Fault>
     requires ready { L.is_ready leaves.old }
     requires posed { IsPosed (L.theory leaves.old) (L.store leaves.old) (tactic_of again.now) (goal_of goal.now) }
-    ensures outcome { Repeats (H.refiners host.now) (H.conversions host.now) (L.theory leaves.old) (L.store leaves.old) fuel.old.left again.now goal.now result (L.store leaves.new) fuel.new.left }
-    ensures theory { L.theory leaves.new ≡ L.theory leaves.old }
-    ensures ready { L.is_ready leaves.new }
-    ensures extends { L.extends leaves.old leaves.new }
+    ensures outcome { Repeats (H.refiners setting.now.host.now) (H.conversions setting.now.host.now) (L.theory leaves.old) (L.store leaves.old) fuel.old.left again.now goal.now result (L.store leaves.new) fuel.new.left }
+    ensures kept { IsKept (L.theory leaves.old) (L.theory leaves.new) (L.is_ready leaves.new) (L.extends leaves.old leaves.new) }
 {
-    let mut stack = Vec::new(alloc);
-    match run_once(alloc, again, goal, host, leaves, fuel) {
-        Once::Refined(step) => begin(alloc, &mut stack, Some(0), step)?,
+    let mut stack = Vec::new(setting.alloc);
+    match run_once(setting, again, goal, leaves, fuel) {
+        Once::Refined(step) => begin(setting.alloc, &mut stack, Some(0), step)?,
         Once::Stays(step) => return Ok(step),
         Once::Refused(fault) => return Err(fault),
     }
     while let Some(mut frame) = pop(&mut stack) {
         if let Some(goal) = take_goal(&mut frame) {
-            let once = run_once(alloc, again, &goal, host, leaves, fuel);
+            let once = run_once(setting, again, &goal, leaves, fuel);
             drop(goal);
             match once {
-                Once::Refined(next) => descend(alloc, &mut stack, frame, next)?,
+                Once::Refined(next) => descend(setting.alloc, &mut stack, frame, next)?,
                 Once::Stays(next) => resume(&mut stack, frame, next)?,
                 Once::Refused(fault) => return Err(fault),
             }
@@ -169,7 +164,7 @@ fn run_repeat<H: Refiners, L: Leaves>(
                 done,
                 above: _,
             } = frame;
-            let made = spliced(alloc, just, done)?;
+            let made = spliced(setting.alloc, just, done)?;
             let Some(below) = pop(&mut stack) else {
                 return Ok(made);
             };
@@ -182,27 +177,24 @@ fn run_repeat<H: Refiners, L: Leaves>(
 // Goes on after a refusal with the first of the others that is not refused so that it is caught.
 #[cycle(run)]
 fn run_others<H: Refiners, L: Leaves>(
-    alloc: Global,
+    setting: &Setting<'_, H>,
     fault: Fault,
     rest: &[Tac<Term>],
     goal: &Goal,
-    host: &H,
     leaves: &mut L,
     fuel: &mut Fuel,
 ) -> Result<Step, Fault>
     requires ready { L.is_ready leaves.old }
     requires posed { ArePosed (L.theory leaves.old) (L.store leaves.old) (λ theory. HaveKnownWitnesses theory (tactics_of rest.now)) (goal_of goal.now ∷ []) }
-    ensures outcome { GoesOn (H.refiners host.now) (H.conversions host.now) (L.theory leaves.old) (L.store leaves.old) fuel.old.left fault rest.now goal.now result (L.store leaves.new) fuel.new.left }
-    ensures theory { L.theory leaves.new ≡ L.theory leaves.old }
-    ensures ready { L.is_ready leaves.new }
-    ensures extends { L.extends leaves.old leaves.new }
+    ensures outcome { GoesOn (H.refiners setting.now.host.now) (H.conversions setting.now.host.now) (L.theory leaves.old) (L.store leaves.old) fuel.old.left fault rest.now goal.now result (L.store leaves.new) fuel.new.left }
+    ensures kept { IsKept (L.theory leaves.old) (L.theory leaves.new) (L.is_ready leaves.new) (L.extends leaves.old leaves.new) }
 {
     let mut fault = fault;
     for other in rest {
         if !is_caught(&fault) {
             return Err(fault);
         }
-        match run(alloc, other, goal, host, leaves, fuel) {
+        match run(setting, other, goal, leaves, fuel) {
             Ok(step) => return Ok(step),
             Err(next) => fault = next,
         }
@@ -213,25 +205,22 @@ fn run_others<H: Refiners, L: Leaves>(
 // Refines a step's subgoals by one link after another.
 #[cycle(run)]
 fn run_links<H: Refiners, L: Leaves>(
-    alloc: Global,
+    setting: &Setting<'_, H>,
     step: Step,
     links: &[Link<Term>],
-    host: &H,
     leaves: &mut L,
     fuel: &mut Fuel,
 ) -> Result<Step, Fault>
     requires ready { L.is_ready leaves.old }
     requires posed { ArePosed (L.theory leaves.old) (L.store leaves.old) (λ theory. HaveKnownWitnessesInLinks theory (links_of links.now)) (goals_of step.goals.items) }
-    ensures outcome { Chains (H.refiners host.now) (H.conversions host.now) (L.theory leaves.old) (L.store leaves.old) fuel.old.left step links.now result (L.store leaves.new) fuel.new.left }
-    ensures theory { L.theory leaves.new ≡ L.theory leaves.old }
-    ensures ready { L.is_ready leaves.new }
-    ensures extends { L.extends leaves.old leaves.new }
+    ensures outcome { Chains (H.refiners setting.now.host.now) (H.conversions setting.now.host.now) (L.theory leaves.old) (L.store leaves.old) fuel.old.left step links.now result (L.store leaves.new) fuel.new.left }
+    ensures kept { IsKept (L.theory leaves.old) (L.theory leaves.new) (L.is_ready leaves.new) (L.extends leaves.old leaves.new) }
 {
     let mut step = step;
     for link in links {
         let Step { goals, just } = step;
-        let steps = run_link(alloc, link, &goals, host, leaves, fuel)?;
-        step = spliced(alloc, just, steps)?;
+        let steps = run_link(setting, link, &goals, leaves, fuel)?;
+        step = spliced(setting.alloc, just, steps)?;
     }
     Ok(step)
 }
@@ -239,30 +228,27 @@ fn run_links<H: Refiners, L: Leaves>(
 // Refines goals by a link. Where there are none, a list of any length will do.
 #[cycle(run)]
 fn run_link<H: Refiners, L: Leaves>(
-    alloc: Global,
+    setting: &Setting<'_, H>,
     link: &Link<Term>,
     goals: &[Goal],
-    host: &H,
     leaves: &mut L,
     fuel: &mut Fuel,
 ) -> Result<Vec<Step>, Fault>
     requires ready { L.is_ready leaves.old }
     requires posed { ArePosed (L.theory leaves.old) (L.store leaves.old) (λ theory. HasKnownWitnessesInLink theory (link_of link.now)) (goals_of goals.now) }
-    ensures outcome { LinkRefines (H.refiners host.now) (H.conversions host.now) (L.theory leaves.old) (L.store leaves.old) fuel.old.left link.now goals.now result (L.store leaves.new) fuel.new.left }
-    ensures theory { L.theory leaves.new ≡ L.theory leaves.old }
-    ensures ready { L.is_ready leaves.new }
-    ensures extends { L.extends leaves.old leaves.new }
+    ensures outcome { LinkRefines (H.refiners setting.now.host.now) (H.conversions setting.now.host.now) (L.theory leaves.old) (L.store leaves.old) fuel.old.left link.now goals.now result (L.store leaves.new) fuel.new.left }
+    ensures kept { IsKept (L.theory leaves.old) (L.theory leaves.new) (L.is_ready leaves.new) (L.extends leaves.old leaves.new) }
 {
     match link {
-        Link::Then(tac) => run_on_all(alloc, tac, goals, host, leaves, fuel),
+        Link::Then(tac) => run_on_all(setting, tac, goals, leaves, fuel),
         Link::Thenl(tacs) => {
             if goals.is_empty() {
-                return Ok(Vec::new(alloc));
+                return Ok(Vec::new(setting.alloc));
             }
             if tacs.len() != goals.len() {
                 return Err(Fault::LengthMismatch);
             }
-            run_on_each(alloc, tacs, goals, host, leaves, fuel)
+            run_on_each(setting, tacs, goals, leaves, fuel)
         }
     }
 }
@@ -270,23 +256,20 @@ fn run_link<H: Refiners, L: Leaves>(
 // Runs an expression on each goal in turn.
 #[cycle(run)]
 fn run_on_all<H: Refiners, L: Leaves>(
-    alloc: Global,
+    setting: &Setting<'_, H>,
     tac: &Tac<Term>,
     goals: &[Goal],
-    host: &H,
     leaves: &mut L,
     fuel: &mut Fuel,
 ) -> Result<Vec<Step>, Fault>
     requires ready { L.is_ready leaves.old }
     requires posed { ArePosed (L.theory leaves.old) (L.store leaves.old) (λ theory. HasKnownWitnesses theory (tactic_of tac.now)) (goals_of goals.now) }
-    ensures outcome { AllRefine (H.refiners host.now) (H.conversions host.now) (L.theory leaves.old) (L.store leaves.old) fuel.old.left tac.now goals.now result (L.store leaves.new) fuel.new.left }
-    ensures theory { L.theory leaves.new ≡ L.theory leaves.old }
-    ensures ready { L.is_ready leaves.new }
-    ensures extends { L.extends leaves.old leaves.new }
+    ensures outcome { AllRefine (H.refiners setting.now.host.now) (H.conversions setting.now.host.now) (L.theory leaves.old) (L.store leaves.old) fuel.old.left tac.now goals.now result (L.store leaves.new) fuel.new.left }
+    ensures kept { IsKept (L.theory leaves.old) (L.theory leaves.new) (L.is_ready leaves.new) (L.extends leaves.old leaves.new) }
 {
-    let mut steps = Vec::new(alloc);
+    let mut steps = Vec::new(setting.alloc);
     for goal in goals {
-        let step = run(alloc, tac, goal, host, leaves, fuel)?;
+        let step = run(setting, tac, goal, leaves, fuel)?;
         keep(&mut steps, step)?;
     }
     Ok(steps)
@@ -295,26 +278,23 @@ fn run_on_all<H: Refiners, L: Leaves>(
 // Runs the first expression on the first goal, and so on.
 #[cycle(run)]
 fn run_on_each<H: Refiners, L: Leaves>(
-    alloc: Global,
+    setting: &Setting<'_, H>,
     tacs: &[Tac<Term>],
     goals: &[Goal],
-    host: &H,
     leaves: &mut L,
     fuel: &mut Fuel,
 ) -> Result<Vec<Step>, Fault>
     requires ready { L.is_ready leaves.old }
     requires posed { ArePosed (L.theory leaves.old) (L.store leaves.old) (λ theory. HaveKnownWitnesses theory (tactics_of tacs.now)) (goals_of goals.now) }
     requires lengths { length tacs.now ≡ length goals.now }
-    ensures outcome { EachRefines (H.refiners host.now) (H.conversions host.now) (L.theory leaves.old) (L.store leaves.old) fuel.old.left tacs.now goals.now result (L.store leaves.new) fuel.new.left }
-    ensures theory { L.theory leaves.new ≡ L.theory leaves.old }
-    ensures ready { L.is_ready leaves.new }
-    ensures extends { L.extends leaves.old leaves.new }
+    ensures outcome { EachRefines (H.refiners setting.now.host.now) (H.conversions setting.now.host.now) (L.theory leaves.old) (L.store leaves.old) fuel.old.left tacs.now goals.now result (L.store leaves.new) fuel.new.left }
+    ensures kept { IsKept (L.theory leaves.old) (L.theory leaves.new) (L.is_ready leaves.new) (L.extends leaves.old leaves.new) }
 {
-    let mut steps = Vec::new(alloc);
+    let mut steps = Vec::new(setting.alloc);
     for i in 0..tacs.len() {
         let tac = &tacs[i];
         let goal = &goals[i];
-        let step = run(alloc, tac, goal, host, leaves, fuel)?;
+        let step = run(setting, tac, goal, leaves, fuel)?;
         keep(&mut steps, step)?;
     }
     Ok(steps)

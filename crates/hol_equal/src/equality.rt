@@ -141,11 +141,7 @@ pub fn named_same(recorder: &mut Recorder, term: &Term, premise: &Rec) -> Result
     if !term.has_binders() {
         return kept(recorder, premise);
     }
-    let _premise = recorder.thm(premise).concl();
-    let _type = term.ty();
-    recorder.theory_is_legal();
-    let reflexive = steps::refl_known(recorder, term)?;
-    steps::eq_mp_known(recorder, &reflexive, premise)
+    renamed(recorder, term, premise)
 }
 
 // The same theorem.
@@ -158,6 +154,24 @@ fn kept(recorder: &mut Recorder, premise: &Rec) -> Result<Rec, Fault>
     let alloc = recorder.alloc();
     let _recorder = recorder;
     premise.copy(alloc)
+}
+
+/// The theorem with this conclusion, of the same image as its own, by REFL and EQ_MP, also where nothing is bound. The theory
+/// knows the formula, which is not walked for it, and the two are not compared.
+pub fn renamed(recorder: &mut Recorder, term: &Term, premise: &Rec) -> Result<Rec, Fault>
+    requires premise { IsMade recorder.old premise.now }
+    requires formula { IsFormula recorder.old.theory term.now }
+    requires same { image premise.now.theorem.conclusion ≡ image term.now }
+    ensures continues { Continues recorder.old recorder.new result }
+    ensures names { IfOk result (λ made. made.theorem.conclusion ≡ term.now) }
+    ensures derives { (h : List Nameless) → Shows premise.now.theorem h (image term.now)
+        → DerivesIf (nameless_within_limits (nameless_equation bool_type (image term.now) (image term.now))) result h (image term.now) }
+{
+    let _premise = recorder.thm(premise).concl();
+    let _type = term.ty();
+    recorder.theory_is_legal();
+    let reflexive = steps::refl_known(recorder, term)?;
+    steps::eq_mp_known(recorder, &reflexive, premise)
 }
 
 /// From `p` and `q`, `q`, with the hypotheses of the first, and those of the second but `p`, in two steps.

@@ -1,7 +1,7 @@
 // What is said of a refused command.
 ghost use Rattle.hol_script.specs.Managers.{IsManager};
 
-use crate::search::{Trial, open_goals, refused_part};
+use crate::search::{Trial, open_goals};
 use hol_explain_hints::{
     Arguments, Case, Known, Message, Piece, Premise, Span, Teller, first_goal, is_looked_up,
     no_command, of_case, of_part, plain, span_of,
@@ -68,104 +68,96 @@ pub(crate) fn arguments_in(
     arguments
 }
 
-// Says what is known of the part of an `e` that is refused.
-fn of_expression<H: Refiners>(
-    trial: &Trial<'_, H>,
-    manager: &mut Manager,
-    case: &Case<'_>,
-    message: &mut Message,
-)
-    requires { IsManager manager.old }
-    ensures { IsManager manager.new }
-{
-    let known = case.teller.known;
-    let part = refused_part(trial, known, manager, message);
-    let arguments = arguments_in(trial.alloc, known, manager, trial.piece, part.span, message);
-    let inner = Case {
-        teller: case.teller,
-        host_names: case.host_names,
-        piece: case.piece,
-        arguments: &arguments,
-        fault: case.fault,
-        row: case.row,
-    };
-    of_part(&inner, &part, message);
-}
-
-// Says what is known of a refused command of which nothing is said yet, of an `e` by its part that is refused.
-fn of_unsaid<H: Refiners>(
-    trial: &Trial<'_, H>,
-    manager: &mut Manager,
-    case: &Case<'_>,
-    message: &mut Message,
-)
-    requires { IsManager manager.old }
-    ensures { IsManager manager.new }
-{
-    if !message.is_empty() {
-        return;
-    }
-    if case.piece.text(0) == "e" {
-        of_expression(trial, manager, case, message);
-    } else {
-        plain(case, message);
-    }
-}
-
-// Says what is known of a command that is refused in this state.
-fn of_command<H: Refiners>(
-    trial: &Trial<'_, H>,
-    host_names: &[String],
-    teller: Teller<'_>,
-    manager: &mut Manager,
-    refused: &Refused,
-    message: &mut Message,
-)
-    requires { IsManager manager.old }
-    ensures { IsManager manager.new }
-{
-    let (alloc, piece) = (trial.alloc, trial.piece);
-    let arguments = arguments_in(alloc, teller.known, manager, piece, span_of(piece), message);
-    let case = Case {
-        teller,
-        host_names,
-        piece,
-        arguments: &arguments,
-        fault: &refused.fault,
-        row: match &refused.row {
-            Some(row) => Some(row.as_str()),
-            None => None,
-        },
-    };
-    of_case(&case, message);
-    of_unsaid(trial, manager, &case, message);
-}
-
-/// Says what is known of a command that is refused in this state, which stays but for what `b` can take back.
-pub(crate) fn explain_command<H: Refiners>(
-    trial: &Trial<'_, H>,
-    host_names: &[String],
-    known: &Known,
-    manager: &mut Manager,
-    refused: &Refused,
-    message: &mut Message,
-)
-    requires { IsManager manager.old }
-    ensures { IsManager manager.new }
-{
-    let alloc = trial.alloc;
-    if refused.fault == Fault::Syntax {
-        no_command(alloc, known, trial.piece, message);
-        return;
-    }
-    let goals = open_goals(alloc, manager, message);
-    let goal = first_goal(goals.as_str());
-    if let Some(goal) = message.made(Piece::of_quote(alloc, goal.as_bytes())) {
-        let teller = Teller {
-            alloc,
-            known,
-            goal: &goal,
+impl<H: Refiners> Trial<'_, H> {
+    // Says what is known of the part of an `e` that is refused.
+    fn of_expression(&self, manager: &mut Manager, case: &Case<'_>, message: &mut Message)
+        requires { IsManager manager.old }
+        ensures { IsManager manager.new }
+    {
+        let known = case.teller.known;
+        let part = self.refused_part(known, manager, message);
+        let arguments = arguments_in(self.alloc, known, manager, self.piece, part.span, message);
+        let inner = Case {
+            teller: case.teller,
+            host_names: case.host_names,
+            piece: case.piece,
+            arguments: &arguments,
+            fault: case.fault,
+            row: case.row,
         };
-        of_command(trial, host_names, teller, manager, refused, message);
+        of_part(&inner, &part, message);
+    }
+
+    // Says what is known of a refused command of which nothing is said yet, of an `e` by its part that is refused.
+    fn of_unsaid(&self, manager: &mut Manager, case: &Case<'_>, message: &mut Message)
+        requires { IsManager manager.old }
+        ensures { IsManager manager.new }
+    {
+        if !message.is_empty() {
+            return;
+        }
+        if case.piece.text(0) == "e" {
+            self.of_expression(manager, case, message);
+        } else {
+            plain(case, message);
+        }
+    }
+
+    // Says what is known of a command that is refused in this state.
+    fn of_command(
+        &self,
+        host_names: &[String],
+        teller: Teller<'_>,
+        manager: &mut Manager,
+        refused: &Refused,
+        message: &mut Message,
+    )
+        requires { IsManager manager.old }
+        ensures { IsManager manager.new }
+    {
+        let (alloc, piece) = (self.alloc, self.piece);
+        let arguments = arguments_in(alloc, teller.known, manager, piece, span_of(piece), message);
+        let case = Case {
+            teller,
+            host_names,
+            piece,
+            arguments: &arguments,
+            fault: &refused.fault,
+            row: match &refused.row {
+                Some(row) => Some(row.as_str()),
+                None => None,
+            },
+        };
+        of_case(&case, message);
+        self.of_unsaid(manager, &case, message);
+    }
+
+    /// Says what is known of a command that is refused in this state, which stays but for what `b` can take back.
+    pub(crate) fn explain_command(
+        &self,
+        host_names: &[String],
+        known: &Known,
+        manager: &mut Manager,
+        refused: &Refused,
+        message: &mut Message,
+    )
+        requires { IsManager manager.old }
+        ensures { IsManager manager.new }
+    {
+        let alloc = self.alloc;
+        if refused.fault == Fault::Syntax {
+            no_command(alloc, known, self.piece, message);
+            return;
+        }
+        let goals = open_goals(alloc, manager, message);
+        let goal = first_goal(goals.as_str());
+        if let Some(goal) = message.made(Piece::of_quote(alloc, goal.as_bytes())) {
+            let teller = Teller {
+                alloc,
+                known,
+                goal: &goal,
+            };
+            self.of_command(host_names, teller, manager, refused, message);
+        }
     }
 }

@@ -3,8 +3,6 @@ ghost use Rattle.std.specs.Prelude.{◌≡◌, ◌∷◌, [], false, IfErr, Cont
 ghost use Rattle.hol_model.specs.declared.fault.Fault.TheVariants.{Memory, WriteFault};
 ghost use Rattle.hol_script.specs.Managers.{IsManager};
 
-use crate::message::explain_command;
-use crate::notes::note_command;
 use crate::rerun::Rerun;
 use crate::search::Trial;
 use hol_device_io::write_all;
@@ -98,7 +96,7 @@ fn explain_refused<H: Refiners>(
     let trial = walk.trial(told.piece);
     let host_names = walk.script.host_names;
     let mut message = Message::new(walk.alloc);
-    explain_command(&trial, host_names, known, manager, refused, &mut message);
+    trial.explain_command(host_names, known, manager, refused, &mut message);
     tell_refused(walk, told, refused, &message, lines);
 }
 
@@ -126,7 +124,8 @@ fn tell_accepted<H: Refiners>(
     ensures { IsManager manager.new }
 {
     if !walk.makes_records {
-        note_command(&walk.trial(told.piece), told, known, manager, lines);
+        walk.trial(told.piece)
+            .note_command(told, known, manager, lines);
         return;
     }
     let (text, shows_goals) = match printed {

@@ -113,41 +113,27 @@ impl Arguments {
 
     /// The argument of this number among those between backquotes, where it is a term.
     pub(crate) fn term(&self, number: usize) -> Option<&Quotation> {
-        match self.terms.get(number) {
-            Some(Some(quotation)) => Some(quotation),
-            _ => None,
-        }
+        self.terms.get(number)?.as_ref()
     }
 
     /// The argument of this number among the names, where it names a theorem.
     pub(crate) fn theorem(&self, number: usize) -> Option<&Premise> {
-        match self.theorems.get(number) {
-            Some(Some(premise)) => Some(premise),
-            _ => None,
-        }
+        self.theorems.get(number)?.as_ref()
     }
 
     /// The term that the word at a place in the list quotes.
     pub(crate) fn term_at(&self, at: usize) -> Option<&Quotation> {
-        for number in 0..self.terms.len() {
-            if let Some(quotation) = self.term(number) {
-                if quotation.at == at {
-                    return Some(quotation);
-                }
-            }
-        }
-        None
+        self.terms
+            .iter()
+            .flatten()
+            .find(|quotation| quotation.at == at)
     }
 
     /// The theorem that the word at a place in the list names.
     pub(crate) fn theorem_at(&self, at: usize) -> Option<&Premise> {
-        for number in 0..self.theorems.len() {
-            if let Some(premise) = self.theorem(number) {
-                if premise.at == at {
-                    return Some(premise);
-                }
-            }
-        }
-        None
+        self.theorems
+            .iter()
+            .flatten()
+            .find(|premise| premise.at == at)
     }
 }

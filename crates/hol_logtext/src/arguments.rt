@@ -1,7 +1,7 @@
 // What the fields behind a word say.
 ghost use Rattle.std.specs.Prelude.{◌≡◌, ◌≤◌, length, map, IfOk};
 ghost use Rattle.std.specs.Str.{bytes_eq};
-ghost use Rattle.std.specs.Option.{option_map, is_some};
+ghost use Rattle.std.specs.Option.{option_map};
 ghost use Rattle.hol_logtext.specs.LineReading as reading;
 ghost use Rattle.hol_logtext.specs.Lines.{fields_in, text_in, name_and_number_in, numbers_in, number_and_pairs_in};
 
@@ -15,13 +15,13 @@ pub(crate) fn is_word(field: &[u8], word: &str) -> bool
     field == word.as_bytes()
 }
 
-/// Whether there is no field.
-pub(crate) fn no_field(fields: &[&[u8]]) -> bool
-    ensures { result ≡ is_some (reading.no_field (fields_in fields.now)) }
+/// Something where there is no field.
+pub(crate) fn no_field(fields: &[&[u8]]) -> Option<()>
+    ensures { result ≡ reading.no_field (fields_in fields.now) }
 {
     match fields {
-        [] => true,
-        _ => false,
+        [] => Some(()),
+        _ => None,
     }
 }
 

@@ -35,26 +35,17 @@ fn type_line<'a>(word: &[u8], fields: &[&'a [u8]]) -> Option<Line<'a>>
     ensures { line_in result ≡ reading.type_of_word word.now (fields_in fields.now) }
 {
     if is_word(word, "v") {
-        match one_name(fields) {
-            Some(name) => Some(Line::TypeVariable(name)),
-            None => None,
-        }
+        let name = one_name(fields)?;
+        Some(Line::TypeVariable(name))
     } else if is_word(word, "b") {
-        if no_field(fields) {
-            Some(Line::Bool)
-        } else {
-            None
-        }
+        no_field(fields)?;
+        Some(Line::Bool)
     } else if is_word(word, "f") {
-        match two_numbers(fields) {
-            Some((domain, codomain)) => Some(Line::FunctionType(domain, codomain)),
-            None => None,
-        }
+        let (domain, codomain) = two_numbers(fields)?;
+        Some(Line::FunctionType(domain, codomain))
     } else if is_word(word, "n") {
-        match one_name(fields) {
-            Some(name) => Some(Line::DeclaredType(name)),
-            None => None,
-        }
+        let name = one_name(fields)?;
+        Some(Line::DeclaredType(name))
     } else {
         None
     }
@@ -64,25 +55,17 @@ fn term_line<'a>(word: &[u8], fields: &[&'a [u8]]) -> Option<Line<'a>>
     ensures { line_in result ≡ reading.term_of_word word.now (fields_in fields.now) }
 {
     if is_word(word, "v") {
-        match name_and_number(fields) {
-            Some((name, ty)) => Some(Line::Variable(name, ty)),
-            None => None,
-        }
+        let (name, ty) = name_and_number(fields)?;
+        Some(Line::Variable(name, ty))
     } else if is_word(word, "c") {
-        match name_and_number(fields) {
-            Some((name, ty)) => Some(Line::Constant(name, ty)),
-            None => None,
-        }
+        let (name, ty) = name_and_number(fields)?;
+        Some(Line::Constant(name, ty))
     } else if is_word(word, "a") {
-        match two_numbers(fields) {
-            Some((function, argument)) => Some(Line::Combination(function, argument)),
-            None => None,
-        }
+        let (function, argument) = two_numbers(fields)?;
+        Some(Line::Combination(function, argument))
     } else if is_word(word, "l") {
-        match two_numbers(fields) {
-            Some((variable, body)) => Some(Line::Abstraction(variable, body)),
-            None => None,
-        }
+        let (variable, body) = two_numbers(fields)?;
+        Some(Line::Abstraction(variable, body))
     } else {
         None
     }
@@ -136,18 +119,14 @@ fn theorem<'a>(alloc: Global, fields: &[&'a [u8]]) -> Result<Option<Line<'a>>, A
 fn type_form<'a>(fields: &[&'a [u8]]) -> Option<Line<'a>>
     ensures { line_in result ≡ reading.by_word reading.type_of_word (fields_in fields.now) }
 {
-    let Some((word, arguments)) = fields.split_first() else {
-        return None;
-    };
+    let (word, arguments) = fields.split_first()?;
     type_line(*word, arguments)
 }
 
 fn term_form<'a>(fields: &[&'a [u8]]) -> Option<Line<'a>>
     ensures { line_in result ≡ reading.by_word reading.term_of_word (fields_in fields.now) }
 {
-    let Some((word, arguments)) = fields.split_first() else {
-        return None;
-    };
+    let (word, arguments) = fields.split_first()?;
     term_line(*word, arguments)
 }
 
@@ -160,20 +139,14 @@ fn short_line<'a>(word: &[u8], fields: &[&'a [u8]]) -> Option<Line<'a>>
     } else if is_word(word, "t") {
         term_form(fields)
     } else if is_word(word, "ny") {
-        match one_name(fields) {
-            Some(name) => Some(Line::NewType(name)),
-            None => None,
-        }
+        let name = one_name(fields)?;
+        Some(Line::NewType(name))
     } else if is_word(word, "nc") {
-        match name_and_number(fields) {
-            Some((name, ty)) => Some(Line::NewConstant(name, ty)),
-            None => None,
-        }
+        let (name, ty) = name_and_number(fields)?;
+        Some(Line::NewConstant(name, ty))
     } else if is_word(word, "end") {
-        match one_number(fields) {
-            Some(count) => Some(Line::End(count)),
-            None => None,
-        }
+        let count = one_number(fields)?;
+        Some(Line::End(count))
     } else if is_word(word, "holp-log") {
         header(fields)
     } else {

@@ -13,9 +13,7 @@ use std::alloc::{AllocError, Global};
 fn pair_rule<'a>(word: &[u8], fields: &[&'a [u8]]) -> Option<Rule<'a>>
     ensures { rule_in result ≡ reading.pair_rule_of_word word.now (fields_in fields.now) }
 {
-    let Some((i, j)) = two_numbers(fields) else {
-        return None;
-    };
+    let (i, j) = two_numbers(fields)?;
     if is_word(word, "TRANS") {
         Some(Rule::Trans(i, j))
     } else if is_word(word, "MK_COMB") {
@@ -36,20 +34,14 @@ fn plain_rule<'a>(word: &[u8], fields: &[&'a [u8]]) -> Option<Rule<'a>>
     ensures { rule_in result ≡ reading.plain_rule_of_word word.now (fields_in fields.now) }
 {
     if is_word(word, "REFL") {
-        match one_number(fields) {
-            Some(t) => Some(Rule::Refl(t)),
-            None => None,
-        }
+        let t = one_number(fields)?;
+        Some(Rule::Refl(t))
     } else if is_word(word, "BETA") {
-        match one_number(fields) {
-            Some(t) => Some(Rule::Beta(t)),
-            None => None,
-        }
+        let t = one_number(fields)?;
+        Some(Rule::Beta(t))
     } else if is_word(word, "ASSUME") {
-        match one_number(fields) {
-            Some(t) => Some(Rule::Assume(t)),
-            None => None,
-        }
+        let t = one_number(fields)?;
+        Some(Rule::Assume(t))
     } else {
         pair_rule(word, fields)
     }
@@ -60,22 +52,14 @@ fn entry<'a>(word: &[u8], fields: &[&'a [u8]]) -> Option<Rule<'a>>
     ensures { rule_in result ≡ reading.entry_of_word word.now (fields_in fields.now) }
 {
     if is_word(word, "ETA") {
-        if no_field(fields) {
-            Some(Rule::Eta)
-        } else {
-            None
-        }
+        no_field(fields)?;
+        Some(Rule::Eta)
     } else if is_word(word, "SELECT") {
-        if no_field(fields) {
-            Some(Rule::Select)
-        } else {
-            None
-        }
+        no_field(fields)?;
+        Some(Rule::Select)
     } else if is_word(word, "DEF") {
-        match name_and_number(fields) {
-            Some((name, t)) => Some(Rule::Def(name, t)),
-            None => None,
-        }
+        let (name, t) = name_and_number(fields)?;
+        Some(Rule::Def(name, t))
     } else {
         plain_rule(word, fields)
     }

@@ -2,7 +2,7 @@
 use Rattle.std.specs.Prelude.{ℕ, suc, List, [], ◌∷◌}
 use Rattle.hol_model.specs.Terms.NamedTerm.{Binder}
 use Rattle.hol_match.specs.Walk.{Sides, right_of}
-use Rattle.hol_match.specs.declared.frames.Frames.{Frames, Outermost, Under'}
+use Rattle.hol_alpha.specs.declared.frames.Frames.{Frames, Outermost, Under'}
 use Rattle.hol_match.specs.declared.inside.Inside.{Inside, Around, Passed'}
 
 abbrev pub sides_of : Frames → Sides

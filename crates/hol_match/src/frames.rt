@@ -1,4 +1,4 @@
-// Pairs of binders around a part of the pattern and of the term, in stack frames that borrow one another.
+// The binders around a part of the pattern (on the left) and the part of the term in its place.
 ghost use Rattle.std.specs.Prelude.{◌≡◌};
 ghost use Rattle.hol_model.specs.Terms.NamedTerm as terms;
 ghost use Rattle.hol_match.specs.Frames.{sides_of};
@@ -6,23 +6,9 @@ ghost use Rattle.hol_match.specs.Walk as spec;
 ghost use Rattle.hol_model.specs.Terms.Substitution as substitution;
 ghost use Rattle.hol_match.specs.Walk.{left_of};
 
+use hol_alpha::Frames;
 use hol_terms::{Parts, Term, same_variable};
 use hol_types::Ty;
-
-/// The name and the type of a variable.
-#[derive(Clone, Copy)]
-pub struct Named<'a> {
-    pub name: &'a str,
-    pub ty: &'a Ty,
-}
-
-/// The binders around a part of the pattern and the part of the term in its place.
-#[derive(Drop)]
-pub enum Frames<'a> {
-    Outermost,
-    // A binder of the pattern, one of the term, and those outside them.
-    Under(Named<'a>, Named<'a>, &'a Frames<'a>),
-}
 
 // Whether the variable of this name and type is bound in the pattern.
 fn is_left_bound(frames: &Frames<'_>, name: &str, ty: &Ty) -> bool

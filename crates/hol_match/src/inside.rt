@@ -7,7 +7,7 @@ ghost use Rattle.hol_match.specs.Inside.{CoversOuter};
 ghost use Rattle.hol_match.specs.Walk.{right_of};
 ghost use Rattle.hol_match.specs.Walk as spec;
 
-use crate::frames::Frames;
+use hol_alpha::Frames;
 use hol_terms::{NameClasses, Parts, Term, same_variable};
 use hol_types::Ty;
 

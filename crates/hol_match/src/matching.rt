@@ -11,10 +11,10 @@ ghost use Rattle.hol_match.specs.Frames.{sides_of};
 ghost use Rattle.hol_match.specs.Once.{IsOnce};
 ghost use Rattle.hol_match.specs.Walk as spec;
 
-use crate::frames::{Frames, Named, bound_alike, is_variable_named};
+use crate::frames::{bound_alike, is_variable_named};
 use crate::inside::is_closed;
 use crate::types::match_type;
-use hol_alpha::aconv;
+use hol_alpha::{Frames, Named, aconv};
 use hol_model::Fault;
 use hol_terms::{Parts, Term};
 use hol_types::Ty;

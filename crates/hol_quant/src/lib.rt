@@ -11,4 +11,5 @@ mod specialization;
 pub use elimination::choose;
 pub use existence::exists;
 pub use generalization::generalize;
+pub use parts::{Quantified, quantified_parts};
 pub use specialization::spec;

@@ -6,17 +6,17 @@ ghost use Rattle.hol_model.specs.Logic.NamedLogic.{is_constant_named, dest_quant
 
 use hol_terms::{Parts, Term};
 
-// A quantifier and the abstraction under it, with the abstraction's variable and body.
+/// A quantifier and the abstraction under it, with the abstraction's variable and body.
 #[derive(Clone, Copy)]
-pub(crate) struct Quantified<'a> {
-    pub(crate) quantifier: &'a Term,
-    pub(crate) predicate: &'a Term,
-    pub(crate) binder: &'a Term,
-    pub(crate) body: &'a Term,
+pub struct Quantified<'a> {
+    pub quantifier: &'a Term,
+    pub predicate: &'a Term,
+    pub binder: &'a Term,
+    pub body: &'a Term,
 }
 
-// The parts of the term, where a quantifier of this name stands over an abstraction.
-pub(crate) fn quantified_parts<'a>(term: &'a Term, quantifier_name: &str) -> Option<Quantified<'a>>
+/// The parts of the term, where a quantifier of this name stands over an abstraction.
+pub fn quantified_parts<'a>(term: &'a Term, quantifier_name: &str) -> Option<Quantified<'a>>
     ensures whole { IfSome result (λ parts. term.now ≡ combination parts.quantifier.now parts.predicate.now) }
     ensures named { IfSome result (λ parts. is_constant_named quantifier_name.now parts.quantifier.now ≡ true) }
     ensures abstraction { IfSome result (λ parts. dest_abstraction parts.predicate.now ≡ Some (parts.binder.now, parts.body.now)) }

@@ -1,7 +1,6 @@
 pub mod Depths
 pub mod Goals
 pub mod Among
-pub mod Equations
 pub mod Fitting
 pub mod Instances
 pub mod TakenNames

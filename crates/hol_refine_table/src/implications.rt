@@ -20,8 +20,8 @@ ghost use Rattle.hol_refine_table.specs.Rows as stated;
 use crate::assumed::{are_assumed, is_assumed};
 use crate::cited::Cited;
 use crate::making::{from_one, from_two, stored_theorem, subgoal, to_one, to_target, to_targets};
-use crate::parts::equation_sides;
 use hol_alpha::aconv;
+use hol_equal::equality::equation_parts;
 use hol_just::{Goal, Just, Rule, Step};
 use hol_model::Fault;
 use hol_terms::Term;
@@ -155,7 +155,7 @@ pub(crate) fn eq_tac(alloc: Global, goal: &Goal) -> Result<Step, Fault>
     ensures { AnswersRow refiners.eq_tac (goal_of goal.now) (step_in result) }
 {
     goal.concl.well_formed();
-    match equation_sides(&goal.concl) {
+    match equation_parts(&goal.concl) {
         Some(sides) => {
             if !sides.left.ty().is_bool() {
                 return Err(Fault::BadShape);

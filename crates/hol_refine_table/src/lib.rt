@@ -7,7 +7,6 @@ mod cited;
 mod implications;
 mod making;
 mod names;
-mod parts;
 mod quantified;
 mod quantifiers;
 mod rows;

@@ -1,9 +1,7 @@
 // The refiners of the table that name no theorem and call no variable.
-ghost use Rattle.std.specs.Prelude.{◌≡◌, [], ◌∷◌, IfOk, IfErr};
-ghost use Rattle.hol_model.specs.declared.fault.Fault.TheVariants.{Memory};
+ghost use Rattle.std.specs.Prelude.{[], ◌∷◌};
 ghost use Rattle.hol_model.specs.Goals.Goals as goals;
 ghost use Rattle.hol_model.specs.Derived.DerivedRules.{named};
-ghost use Rattle.hol_model.specs.Logic.NamedLogic.{false_term};
 ghost use Rattle.hol_model.specs.Goals.Justifications.{by_rule, no_parts};
 ghost use Rattle.hol_model.specs.Refining.Refiners as refiners;
 ghost use Rattle.hol_model.specs.Refining.Refiners.{leaves, from_first, one_part};
@@ -14,12 +12,12 @@ ghost use Rattle.hol_refine_table.specs.Rows as stated;
 
 use crate::assumed::is_assumed;
 use crate::making::{by_itself, from_one, from_two, subgoal, to_assuming, to_target, to_targets};
-use crate::parts::{connected_sides, equation_sides, negated_part};
 use hol_alpha::aconv;
+use hol_bool::{connected_sides, falsity, negated_part};
+use hol_equal::equality::equation_parts;
 use hol_just::{Goal, Just, Rule, Step};
 use hol_model::Fault;
 use hol_terms::Term;
-use hol_types::Ty;
 use std::alloc::Global;
 
 /// The goal itself.
@@ -67,7 +65,7 @@ fn reflexive(alloc: Global, a: &Term) -> Result<Step, Fault>
 pub(crate) fn refl_tac(alloc: Global, goal: &Goal) -> Result<Step, Fault>
     ensures { AnswersRow refiners.refl_tac (goal_of goal.now) (step_in result) }
 {
-    match equation_sides(&goal.concl) {
+    match equation_parts(&goal.concl) {
         Some(sides) => {
             if !aconv(sides.left, sides.right) {
                 return Err(Fault::RefineFails);
@@ -143,15 +141,6 @@ fn discharged(alloc: Global, goal: &Goal, p: &Term, q: &Term) -> Result<Step, Fa
 {
     let just = by_disch(alloc, p)?;
     to_assuming(alloc, goal, p, q, just)
-}
-
-// `F`.
-fn falsity(alloc: Global) -> Result<Term, Fault>
-    ensures ok { IfOk result (λ term. term ≡ false_term) }
-    ensures err { IfErr result (λ fault. fault ≡ Memory) }
-{
-    let boolean = Ty::boolean(alloc)?;
-    Term::mk_const(alloc, "F", &boolean)
 }
 
 // `F`, with `p` assumed.

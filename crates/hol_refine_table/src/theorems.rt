@@ -16,8 +16,8 @@ use crate::cited::Cited;
 use crate::making::{
     assuming, by_disj_cases, closed, from_two, stored_theorem, subgoal, to_assuming, to_two,
 };
-use crate::parts::connected_sides;
 use hol_alpha::aconv;
+use hol_bool::connected_sides;
 use hol_just::{Goal, Rule, Step, named};
 use hol_model::Fault;
 use hol_terms::Term;

@@ -1,6 +1,6 @@
 -- What `thm` asks for, and commands by their words and what follows them.
 use Rattle.std.proofs.Common.{◌≡◌, ◌≢◌, ℕ, ◌+◌, ◌-◌, ◌*◌, ◌<◌, ◌≤◌, suc, arith, rules, drop-cons, List, [], ◌∷◌, length, get_or, take, drop}
-use Rattle.std.proofs.Common.{refl, sym, ◌∙◌, ap, subst, Some, Result, Ok, Err, Vec, Global}
+use Rattle.std.proofs.Common.{refl, sym, ◌∙◌, ap, subst, Bool, true, false, if◌then◌else◌, map, Some, Result, Ok, Err, Vec, Global}
 use Rattle.std.proofs.lemmas.Slice.Eq.{bytes_eq-Decides}
 use Rattle.std.proofs.lemmas.List.{take_rest}
 use Rattle.hol_model.specs.declared.limits.TheConstants.{EXPRESSION_NESTING_LIMIT}
@@ -33,6 +33,8 @@ use Rattle.hol_script_commands.specs.declared.command.Rule.{Rule}
 use Rattle.hol_script_commands.specs.declared.command.Asked.TheVariants.{Rule as AsksRule}
 use Rattle.hol_script_commands.specs.declared.command.Command.{Command}
 use Rattle.hol_script_commands.specs.declared.command.CommandKind.{CommandKind}
+use Rattle.hol_tactic_grammar.specs.Words.{meaning_in}
+use Rattle.hol_script_commands.specs.declared.command.TheConstants.{COMMANDS}
 use Rattle.hol_script_commands.specs.declared.command.CommandKind.TheVariants.{Naming, OfGoals}
 use Rattle.hol_script_commands.specs.declared.command.NamingKind.{NamingKind}
 use Rattle.hol_script_commands.specs.declared.command.NamingKind.TheVariants.{Thm, Show, Var, Def, NewType, NewConst, Save}
@@ -66,8 +68,23 @@ rule-asked rule tokens (tree, grammatical, spelled, is_rule) = (by_rule tree, gr
 pub command-kind : (kind : CommandKind) → command_kind_of (command_word kind) ≡ Some kind
 command-kind kind = search rules
 
+-- each entry of a table stands under its own word
+abbrev HaveWords : {T : Type 0} → (T → List ℕ) → List (List ℕ × T) → Type 0
+HaveWords word_of [] = Unit {0}
+HaveWords word_of (entry ∷ entries) = (entry.0 ≡ word_of entry.1) × HaveWords word_of entries
+
+word-found : {T : Type 0} (word_of : T → List ℕ) (table : List (List ℕ × T)) (word : List ℕ) (meaning : T) → HaveWords word_of table
+    → meaning_in table word ≡ Some meaning → word ≡ word_of meaning
+word-found word_of [] word meaning have found = cc
+word-found {T} word_of (entry ∷ entries) word meaning have found = by (bytes_eq word entry.0) refl found (λ later. word-found word_of entries word meaning have.1 later) where
+  by : (b : Bool) → bytes_eq word entry.0 ≡ b → (if b then Some entry.1 else meaning_in entries word) ≡ Some meaning
+      → (meaning_in entries word ≡ Some meaning → word ≡ word_of meaning) → word ≡ word_of meaning
+  by true same found later = let is : entry.1 ≡ meaning = cc in (bytes_eq-Decides word entry.0).0 same ∙ have.0 ∙ ap word_of is
+  by false other found later = later found
+
 kind-command : (word : List ℕ) (kind : CommandKind) → command_kind_of word ≡ Some kind → word ≡ command_word kind
-kind-command word kind found = search (rules, found, bytes_eq-Decides)
+kind-command word kind found =
+    word-found command_word (map (λ entry. (entry.0.now, entry.1)) COMMANDS) word kind (refl, refl, refl, refl, refl, refl, refl, refl, refl, refl, refl, refl, tt) found
 
 -- ---- commands
 

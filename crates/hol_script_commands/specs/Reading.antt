@@ -1,7 +1,5 @@
 -- What the readers of commands answer.
-use Rattle.std.specs.Prelude.{◌≡◌, ◌≢◌, ℕ, List, [], ◌∷◌, Bool, true, false, Option, None, Some, Result, Ok, Err, codes, if◌then◌else◌, map, length, ◌++◌}
-use Rattle.std.specs.Option.{option_map, option_or}
-use Rattle.std.specs.Str.{bytes_eq}
+use Rattle.std.specs.Prelude.{◌≡◌, ◌≢◌, ℕ, List, [], ◌∷◌, Bool, true, false, Option, None, Some, Result, Ok, Err, codes, map, length, ◌++◌}
 use Rattle.std.proofs.Common.{Vec, Bor, Global}
 use Rattle.hol_model.specs.declared.symbol.Symbol.{Symbol}
 use Rattle.hol_model.specs.declared.symbol.Symbol.TheVariants.{Backquote, Colon, Equal}
@@ -27,6 +25,8 @@ use Rattle.hol_syntax_grammar.specs.Steps.{flat_steps_of}
 use Rattle.hol_syntax_grammar.specs.TermSteps.{term_steps, flat_steps}
 use Rattle.hol_tactic_exprs.specs.declared.conv.Conv.{Conv}
 use Rattle.hol_tactic_exprs.specs.Expressions.{conversion_of}
+use Rattle.hol_tactic_grammar.specs.Words.{meaning_in}
+use Rattle.hol_script_commands.specs.declared.command.TheConstants.{COMMANDS}
 use Rattle.hol_script_commands.specs.declared.command.Rule.{Rule}
 use Rattle.hol_script_commands.specs.declared.command.Asked.{Asked}
 use Rattle.hol_script_commands.specs.declared.command.Command.{Command}
@@ -185,29 +185,9 @@ command_word (OfGoals Back) = codes "b"
 command_word (OfGoals Print) = codes "p"
 command_word (OfGoals Rotate) = codes "r"
 
--- the kind of command with a name that a word names
-abbrev pub naming_kind_of : List ℕ → Option NamingKind
-naming_kind_of word =
-    if bytes_eq word (codes "thm") then Some Thm else
-    (if bytes_eq word (codes "show") then Some Show else
-    (if bytes_eq word (codes "var") then Some Var else
-    (if bytes_eq word (codes "def") then Some Def else
-    (if bytes_eq word (codes "newtype") then Some NewType else
-    (if bytes_eq word (codes "newconst") then Some NewConst else
-    (if bytes_eq word (codes "save") then Some Save else None))))))
-
--- the kind of command of the goal stack that a word names
-abbrev pub goal_kind_of : List ℕ → Option GoalKind
-goal_kind_of word =
-    if bytes_eq word (codes "goal") then Some Goal else
-    (if bytes_eq word (codes "e") then Some Expand else
-    (if bytes_eq word (codes "b") then Some Back else
-    (if bytes_eq word (codes "p") then Some Print else
-    (if bytes_eq word (codes "r") then Some Rotate else None))))
-
 -- the kind of command that a word names
 abbrev pub command_kind_of : List ℕ → Option CommandKind
-command_kind_of word = option_or (option_map Naming (naming_kind_of word)) (option_map OfGoals (goal_kind_of word))
+command_kind_of = meaning_in (map (λ entry. (entry.0.now, entry.1)) COMMANDS)
 
 -- what follows the word
 abbrev pub behind_tokens : CommandTree → List Token

@@ -2,11 +2,11 @@
 ghost use Rattle.std.specs.Prelude.{◌≡◌, codes};
 ghost use Rattle.hol_syntax_grammar.specs.Views.{tokens_of};
 ghost use Rattle.hol_tactic_grammar.specs.Tokens.{AreTokens};
-ghost use Rattle.hol_script_commands.specs.Reading.{naming_kind_of, command_kind_of, ParsesTyping};
+ghost use Rattle.hol_script_commands.specs.Reading.{command_kind_of, ParsesTyping};
 ghost use Rattle.hol_script_commands.specs.Reading.{ParsesArguments, ParsesRule, ParsesTautology, ParsesConverted, ParsesAsked, ParsesBody, ParsesBehind, ParsesCommand};
 ghost use Rattle.hol_script_commands.specs.Pairs.{ParsesPairs};
 
-use crate::goals::{GoalKind, goal_kind, parse_goal_command};
+use crate::goals::{GoalKind, parse_goal_command};
 use crate::pairs::{
     QuotedPair, TermPair, TypePair, parse_term_pairs, parse_type_pairs, take_pairs,
 };
@@ -18,6 +18,7 @@ use hol_model_rules::RuleName;
 use hol_syntax::parse_type;
 use hol_syntax_grammar::{ReadError, TermStep, Token, TypeStep};
 use hol_tactic_exprs::{Conv, Tac};
+use hol_tactic_grammar::meaning_in;
 use std::alloc::Global;
 
 /// A rule with its arguments: terms and types by their steps, theorems and type variables by their names.
@@ -58,6 +59,9 @@ pub enum Command<'a> {
     /// `save`: under which name.
     Save(&'a str),
 }
+
+/// What the reader of a command answers.
+pub(crate) type Parsed<'a> = Result<Command<'a>, ReadError>;
 
 // A command whose word has a name behind it, without its arguments.
 #[derive(Clone, Copy, Drop)]
@@ -186,11 +190,7 @@ fn parse_typing<'a>(alloc: Global, tokens: &'a [Token<'a>]) -> Result<Vec<TypeSt
     }
 }
 
-fn parse_thm<'a>(
-    alloc: Global,
-    name: &'a str,
-    tokens: &'a [Token<'a>],
-) -> Result<Command<'a>, ReadError>
+fn parse_thm<'a>(alloc: Global, name: &'a str, tokens: &'a [Token<'a>]) -> Parsed<'a>
     requires { AreTokens (tokens_of tokens.now) }
     ensures { ParsesBody result NamingKind.Thm name.now (tokens_of tokens.now) }
 {
@@ -200,7 +200,7 @@ fn parse_thm<'a>(
     Ok(Command::Thm(name, parse_asked(alloc, asked)?))
 }
 
-fn parse_show<'a>(name: &'a str, tokens: &'a [Token<'a>]) -> Result<Command<'a>, ReadError>
+fn parse_show<'a>(name: &'a str, tokens: &'a [Token<'a>]) -> Parsed<'a>
     ensures { ParsesBody result NamingKind.Show name.now (tokens_of tokens.now) }
 {
     if !tokens.is_empty() {
@@ -209,21 +209,13 @@ fn parse_show<'a>(name: &'a str, tokens: &'a [Token<'a>]) -> Result<Command<'a>,
     Ok(Command::Show(name))
 }
 
-fn parse_var<'a>(
-    alloc: Global,
-    name: &'a str,
-    tokens: &'a [Token<'a>],
-) -> Result<Command<'a>, ReadError>
+fn parse_var<'a>(alloc: Global, name: &'a str, tokens: &'a [Token<'a>]) -> Parsed<'a>
     ensures { ParsesBody result NamingKind.Var name.now (tokens_of tokens.now) }
 {
     Ok(Command::Var(name, parse_typing(alloc, tokens)?))
 }
 
-fn parse_def<'a>(
-    alloc: Global,
-    name: &'a str,
-    tokens: &'a [Token<'a>],
-) -> Result<Command<'a>, ReadError>
+fn parse_def<'a>(alloc: Global, name: &'a str, tokens: &'a [Token<'a>]) -> Parsed<'a>
     ensures { ParsesBody result NamingKind.Def name.now (tokens_of tokens.now) }
 {
     let Some(quote) = take_mark(tokens, Symbol::Equal) else {
@@ -232,7 +224,7 @@ fn parse_def<'a>(
     Ok(Command::Def(name, parse_only_quote(alloc, quote)?))
 }
 
-fn parse_newtype<'a>(name: &'a str, tokens: &'a [Token<'a>]) -> Result<Command<'a>, ReadError>
+fn parse_newtype<'a>(name: &'a str, tokens: &'a [Token<'a>]) -> Parsed<'a>
     ensures { ParsesBody result NamingKind.NewType name.now (tokens_of tokens.now) }
 {
     if !tokens.is_empty() {
@@ -241,17 +233,13 @@ fn parse_newtype<'a>(name: &'a str, tokens: &'a [Token<'a>]) -> Result<Command<'
     Ok(Command::NewType(name))
 }
 
-fn parse_newconst<'a>(
-    alloc: Global,
-    name: &'a str,
-    tokens: &'a [Token<'a>],
-) -> Result<Command<'a>, ReadError>
+fn parse_newconst<'a>(alloc: Global, name: &'a str, tokens: &'a [Token<'a>]) -> Parsed<'a>
     ensures { ParsesBody result NamingKind.NewConst name.now (tokens_of tokens.now) }
 {
     Ok(Command::NewConst(name, parse_typing(alloc, tokens)?))
 }
 
-fn parse_save<'a>(name: &'a str, tokens: &'a [Token<'a>]) -> Result<Command<'a>, ReadError>
+fn parse_save<'a>(name: &'a str, tokens: &'a [Token<'a>]) -> Parsed<'a>
     ensures { ParsesBody result NamingKind.Save name.now (tokens_of tokens.now) }
 {
     if !tokens.is_empty() {
@@ -260,48 +248,31 @@ fn parse_save<'a>(name: &'a str, tokens: &'a [Token<'a>]) -> Result<Command<'a>,
     Ok(Command::Save(name))
 }
 
-// The kind of command with a name that a word names.
-fn naming_kind(word: &str) -> Option<NamingKind>
-    ensures { result ≡ naming_kind_of word.now }
-{
-    if word == "thm" {
-        Some(NamingKind::Thm)
-    } else if word == "show" {
-        Some(NamingKind::Show)
-    } else if word == "var" {
-        Some(NamingKind::Var)
-    } else if word == "def" {
-        Some(NamingKind::Def)
-    } else if word == "newtype" {
-        Some(NamingKind::NewType)
-    } else if word == "newconst" {
-        Some(NamingKind::NewConst)
-    } else if word == "save" {
-        Some(NamingKind::Save)
-    } else {
-        None
-    }
-}
+// The kind of command that each word names.
+const COMMANDS: [(&str, CommandKind); 12] = [
+    ("thm", CommandKind::Naming(NamingKind::Thm)),
+    ("show", CommandKind::Naming(NamingKind::Show)),
+    ("var", CommandKind::Naming(NamingKind::Var)),
+    ("def", CommandKind::Naming(NamingKind::Def)),
+    ("newtype", CommandKind::Naming(NamingKind::NewType)),
+    ("newconst", CommandKind::Naming(NamingKind::NewConst)),
+    ("save", CommandKind::Naming(NamingKind::Save)),
+    ("goal", CommandKind::OfGoals(GoalKind::Goal)),
+    ("e", CommandKind::OfGoals(GoalKind::Expand)),
+    ("b", CommandKind::OfGoals(GoalKind::Back)),
+    ("p", CommandKind::OfGoals(GoalKind::Print)),
+    ("r", CommandKind::OfGoals(GoalKind::Rotate)),
+];
 
 // The kind of command that a word names.
 fn command_kind(word: &str) -> Option<CommandKind>
     ensures { result ≡ command_kind_of word.now }
 {
-    if let Some(kind) = naming_kind(word) {
-        return Some(CommandKind::Naming(kind));
-    }
-    match goal_kind(word) {
-        Some(kind) => Some(CommandKind::OfGoals(kind)),
-        None => None,
-    }
+    meaning_in(&COMMANDS, word)
 }
 
 // A name, and what a command of this kind has behind it.
-fn parse_naming<'a>(
-    alloc: Global,
-    kind: NamingKind,
-    tokens: &'a [Token<'a>],
-) -> Result<Command<'a>, ReadError>
+fn parse_naming<'a>(alloc: Global, kind: NamingKind, tokens: &'a [Token<'a>]) -> Parsed<'a>
     requires { AreTokens (tokens_of tokens.now) }
     ensures { ParsesBehind result (CommandKind.Naming kind) (tokens_of tokens.now) }
 {

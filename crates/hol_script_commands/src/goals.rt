@@ -5,9 +5,9 @@ ghost use Rattle.hol_model.specs.Texts.Lexing.{numeral_value};
 ghost use Rattle.hol_syntax_grammar.specs.Views.{tokens_of};
 ghost use Rattle.hol_tactic_grammar.specs.Tokens.{AreTokens};
 ghost use Rattle.hol_script_commands.specs.declared.command.CommandKind.TheVariants.{OfGoals};
-ghost use Rattle.hol_script_commands.specs.Reading.{goal_kind_of, TakesNumber, ParsesBehind};
+ghost use Rattle.hol_script_commands.specs.Reading.{TakesNumber, ParsesBehind};
 
-use crate::command::Command;
+use crate::command::{Command, Parsed};
 use crate::quotes::parse_only_quote;
 use hol_syntax_grammar::{ReadError, Token};
 use hol_tactic_grammar::tactic_of;
@@ -23,41 +23,22 @@ pub enum GoalKind {
     Rotate,
 }
 
-/// The kind of command of the goal stack that a word names.
-pub fn goal_kind(word: &str) -> Option<GoalKind>
-    ensures { result ≡ goal_kind_of word.now }
-{
-    if word == "goal" {
-        Some(GoalKind::Goal)
-    } else if word == "e" {
-        Some(GoalKind::Expand)
-    } else if word == "b" {
-        Some(GoalKind::Back)
-    } else if word == "p" {
-        Some(GoalKind::Print)
-    } else if word == "r" {
-        Some(GoalKind::Rotate)
-    } else {
-        None
-    }
-}
-
 // A quoted term and nothing else.
-fn parse_goal<'a>(alloc: Global, tokens: &'a [Token<'a>]) -> Result<Command<'a>, ReadError>
+fn parse_goal<'a>(alloc: Global, tokens: &'a [Token<'a>]) -> Parsed<'a>
     ensures { ParsesBehind result (OfGoals GoalKind.Goal) (tokens_of tokens.now) }
 {
     Ok(Command::Goal(parse_only_quote(alloc, tokens)?))
 }
 
 // A refiner expression and nothing else.
-fn parse_expand<'a>(alloc: Global, tokens: &'a [Token<'a>]) -> Result<Command<'a>, ReadError>
+fn parse_expand<'a>(alloc: Global, tokens: &'a [Token<'a>]) -> Parsed<'a>
     requires { AreTokens (tokens_of tokens.now) }
     ensures { ParsesBehind result (OfGoals GoalKind.Expand) (tokens_of tokens.now) }
 {
     Ok(Command::Expand(tactic_of(alloc, tokens)?))
 }
 
-fn parse_back<'a>(tokens: &'a [Token<'a>]) -> Result<Command<'a>, ReadError>
+fn parse_back<'a>(tokens: &'a [Token<'a>]) -> Parsed<'a>
     ensures { ParsesBehind result (OfGoals GoalKind.Back) (tokens_of tokens.now) }
 {
     if !tokens.is_empty() {
@@ -66,7 +47,7 @@ fn parse_back<'a>(tokens: &'a [Token<'a>]) -> Result<Command<'a>, ReadError>
     Ok(Command::Back)
 }
 
-fn parse_print<'a>(tokens: &'a [Token<'a>]) -> Result<Command<'a>, ReadError>
+fn parse_print<'a>(tokens: &'a [Token<'a>]) -> Parsed<'a>
     ensures { ParsesBehind result (OfGoals GoalKind.Print) (tokens_of tokens.now) }
 {
     if !tokens.is_empty() {
@@ -99,7 +80,7 @@ fn only_number(tokens: &[Token<'_>]) -> Option<u32>
 }
 
 // A number and nothing else.
-fn parse_rotate<'a>(tokens: &'a [Token<'a>]) -> Result<Command<'a>, ReadError>
+fn parse_rotate<'a>(tokens: &'a [Token<'a>]) -> Parsed<'a>
     requires { AreTokens (tokens_of tokens.now) }
     ensures { ParsesBehind result (OfGoals GoalKind.Rotate) (tokens_of tokens.now) }
 {
@@ -110,11 +91,7 @@ fn parse_rotate<'a>(tokens: &'a [Token<'a>]) -> Result<Command<'a>, ReadError>
 }
 
 /// The argument of a command of the goal stack.
-pub fn parse_goal_command<'a>(
-    alloc: Global,
-    kind: GoalKind,
-    tokens: &'a [Token<'a>],
-) -> Result<Command<'a>, ReadError>
+pub fn parse_goal_command<'a>(alloc: Global, kind: GoalKind, tokens: &'a [Token<'a>]) -> Parsed<'a>
     requires { AreTokens (tokens_of tokens.now) }
     ensures { ParsesBehind result (OfGoals kind) (tokens_of tokens.now) }
 {

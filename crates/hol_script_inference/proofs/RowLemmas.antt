@@ -1,6 +1,6 @@
 -- Rows of truth values: their texts, and that their atoms are told by theirs.
 use Rattle.std.proofs.Common.{◌≡◌, ℕ, List, [], ◌∷◌, map, Bool, refl, sym, ap, ◌∙◌, inl, inr, Some, Global, string_bytes}
-use Rattle.std.specs.Prelude.{String}
+use Rattle.std.specs.Prelude.{String, ◌++◌, codes}
 use Rattle.hol_model.specs.declared.fault.Fault.{Fault}
 use Rattle.hol_model.specs.declared.fault.Fault.TheVariants.{Memory, NotTautology}
 use Rattle.hol_model.specs.Propositional.Propositions.{atoms_of}
@@ -8,10 +8,10 @@ use Rattle.hol_model.specs.Logic.Derivable.{IsMember}
 use Rattle.hol_model.specs.Terms.NamedTerm.{NamedTerm}
 use Rattle.hol_model.specs.Texts.SequentTexts.{IsReadableFormula, AreReadableFormulas}
 use Rattle.hol_model.specs.Texts.Reading.{Scope}
-use Rattle.hol_model_sessions.specs.Replies.{refusal_of, row_text}
+use Rattle.hol_model_sessions.specs.Replies.{refusal_of, value_text, further_values, row_text}
 use Rattle.hol_model_sessions.specs.ScriptSessions.{values_of, row_of_fault}
 use Rattle.hol_script_session.specs.Answers.{plain}
-use Rattle.hol_script_inference.specs.Rows.{refusal_for, TellsRow}
+use Rattle.hol_script_inference.specs.Rows.{values_behind, refusal_for, TellsRow}
 
 -- a fault has a row of values, or it has none
 pub data RowCases (fault : Fault) : Type 0 where
@@ -35,6 +35,14 @@ pub values-readable : (scope : Scope) (atoms : List NamedTerm) (row : List Bool)
 values-readable scope [] row each = tt
 values-readable scope (atom ∷ atoms) [] each = tt
 values-readable scope (atom ∷ atoms) (value ∷ row) each = (each atom (inl refl), values-readable scope atoms row (λ a m. each a (inr m)))
+
+further-behind : (scope : Scope) (values : List (NamedTerm × Bool)) → values_behind scope (codes ", ") values ≡ further_values scope values
+further-behind scope [] = refl
+further-behind scope (value ∷ values) = ap (λ (further : List ℕ). codes ", " ++ value_text scope value ++ further) (further-behind scope values)
+
+pub row_behind : (scope : Scope) (values : List (NamedTerm × Bool)) → values_behind scope (codes " ") values ≡ row_text scope values
+row_behind scope [] = refl
+row_behind scope (value ∷ values) = ap (λ (further : List ℕ). codes " " ++ value_text scope value ++ further) (further-behind scope values)
 
 -- ---- the refusal with its row
 

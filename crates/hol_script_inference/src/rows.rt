@@ -5,7 +5,7 @@ ghost use Rattle.hol_model.specs.Propositional.Propositions.{atoms_of};
 ghost use Rattle.hol_model_sessions.specs.Replies as replies;
 ghost use Rattle.hol_model_sessions.specs.ScriptSessions.{values_of};
 ghost use Rattle.hol_syntax.specs.Scope.{scope_of};
-ghost use Rattle.hol_script_inference.specs.Rows.{TellsRow};
+ghost use Rattle.hol_script_inference.specs.Rows.{values_behind, TellsRow};
 
 use hol_model::Fault;
 use hol_script_session::reply::Refused;
@@ -32,15 +32,16 @@ fn push_value(
     Ok(())
 }
 
-// Puts atoms and their values, each behind a comma, at the end of a text.
-fn push_further(
+// Puts atoms and their values at the end of a text, the first behind this text, each other behind a comma.
+fn push_values(
     alloc: Global,
     scope: &Scope,
+    before: &str,
     atoms: &[Term],
     row: &[bool],
     out: &mut String,
 ) -> Result<(), Fault>
-    ensures ok { OnOk result (string_bytes out.new ≡ string_bytes out.old ++ replies.further_values (scope_of scope.now) (values_of atoms.now row.now)) }
+    ensures ok { OnOk result (string_bytes out.new ≡ string_bytes out.old ++ values_behind (scope_of scope.now) before.now (values_of atoms.now row.now)) }
     ensures err { IfErr result (λ fault. fault ≡ Memory) }
 {
     let Some((atom, atoms)) = atoms.split_first() else {
@@ -49,31 +50,9 @@ fn push_further(
     let Some((value, row)) = row.split_first() else {
         return Ok(());
     };
-    out.push_str(", ")?;
+    out.push_str(before)?;
     push_value(alloc, scope, atom, *value, out)?;
-    push_further(alloc, scope, atoms, row, out)
-}
-
-// Puts a space, and atoms and their values with commas between them, at the end of a text; nothing where there is none.
-fn push_row(
-    alloc: Global,
-    scope: &Scope,
-    atoms: &[Term],
-    row: &[bool],
-    out: &mut String,
-) -> Result<(), Fault>
-    ensures ok { OnOk result (string_bytes out.new ≡ string_bytes out.old ++ replies.row_text (scope_of scope.now) (values_of atoms.now row.now)) }
-    ensures err { IfErr result (λ fault. fault ≡ Memory) }
-{
-    let Some((atom, atoms)) = atoms.split_first() else {
-        return Ok(());
-    };
-    let Some((value, row)) = row.split_first() else {
-        return Ok(());
-    };
-    out.push_str(" ")?;
-    push_value(alloc, scope, atom, *value, out)?;
-    push_further(alloc, scope, atoms, row, out)
+    push_values(alloc, scope, ", ", atoms, row, out)
 }
 
 // The text of a row of values of a proposition's atoms.
@@ -82,7 +61,7 @@ fn row_text(alloc: Global, scope: &Scope, term: &Term, row: &[bool]) -> Result<S
 {
     let atoms = atoms(alloc, term)?;
     let mut text = String::new(alloc);
-    push_row(alloc, scope, &atoms, row, &mut text)?;
+    push_values(alloc, scope, " ", &atoms, row, &mut text)?;
     Ok(text)
 }
 

@@ -11,8 +11,7 @@ use Rattle.hol_model_sessions.specs.Sessions.{State, with_theorem, with_theorems
 use Rattle.hol_model.specs.declared.fault.Fault.{Fault}
 use Rattle.hol_journal.specs.Journal.{Recorded}
 use Rattle.hol_prelude.specs.Prelude.{prelude_theorems}
-use Rattle.hol_script_session.specs.declared.beginning.StoredTheorem.{StoredTheorem}
-use Rattle.hol_script_session.specs.Beginning.{IsScopeOf, AreStoredTheorems, StoresNumbered}
+use Rattle.hol_script_session.specs.Beginning.{StoredTheorem, IsScopeOf, AreStoredTheorems, StoresNumbered}
 
 -- the item at a place, before what is left behind it
 pub item-at : {X : Type 0} → (items : List X) (at : ℕ) (default : X) → at < length items → drop at items ≡ get_or items at default ∷ drop (at + 1) items
@@ -31,7 +30,7 @@ pub record IsStoringTo (old now : State) (left : List StoredTheorem) (all : List
   pub same : with_theorems now later ≡ with_theorems old all
 
 pub storing-further : (old now new : State) (stored : StoredTheorem) (left : List StoredTheorem) (all : List (List ℕ × Theorem)) → IsStoringTo old now (stored ∷ left) all
-    → StoresNumbered now new stored.name.now stored.number → IsStoringTo old new left all
+    → StoresNumbered now new stored.0.now stored.1 → IsStoringTo old new left all
 storing-further old now new stored left all storing stores = go storing.later storing.matched storing.same
   where
     go : (later : List (List ℕ × Theorem)) → AreStoredTheorems (stored ∷ left) later → with_theorems now later ≡ with_theorems old all → IsStoringTo old new left all
@@ -44,12 +43,12 @@ storing-further old now new stored left all storing stores = go storing.later st
 
 -- the number of a theorem that is stored next is one of the prelude
 pub storing-within : (old now : State) (stored : StoredTheorem) (left : List StoredTheorem) (all : List (List ℕ × Theorem))
-    → IsStoringTo old now (stored ∷ left) all → stored.number < length prelude_theorems
+    → IsStoringTo old now (stored ∷ left) all → stored.1 < length prelude_theorems
 storing-within old now stored left all storing = go storing.later storing.matched
   where
-    go : (later : List (List ℕ × Theorem)) → AreStoredTheorems (stored ∷ left) later → stored.number < length prelude_theorems
+    go : (later : List (List ℕ × Theorem)) → AreStoredTheorems (stored ∷ left) later → stored.1 < length prelude_theorems
     go [] matched = absurd matched
-    go (named ∷ later) matched = within prelude_theorems stored.number named.1 matched.0.1
+    go (named ∷ later) matched = within prelude_theorems stored.1 named.1 matched.0.1
 
 -- the theorem of a number is stored
 pub numbered-stored : {A : Type 0} → (result : Result A Fault) (old new : State) (name : List ℕ) (number : ℕ) (made answer : Recorded)
@@ -66,7 +65,7 @@ pub storing-next : (old now : State) (table : List StoredTheorem) (at : ℕ) (de
 storing-next old now table at default all inside storing = subst (λ (left : List StoredTheorem). IsStoringTo old now left all) (item-at table at default inside) storing
 
 pub next-number : (old now : State) (table : List StoredTheorem) (at : ℕ) (default : StoredTheorem) (all : List (List ℕ × Theorem)) → at < length table → IsStoringTo old now (drop at table) all
-    → (slice_index_or table at default).number < length prelude_theorems
+    → (slice_index_or table at default).1 < length prelude_theorems
 next-number old now table at default all inside storing =
     storing-within old now (slice_index_or table at default) (drop (at + 1) table) all (storing-next old now table at default all inside storing)
 

@@ -1,5 +1,6 @@
 -- What stands when a script begins.
 use Rattle.std.specs.Prelude.{◌≡◌, ℕ, List, [], ◌∷◌, Some, None, slice_get}
+use Rattle.std.proofs.Common.{Bor}
 use Rattle.hol_model.specs.Logic.Logic.{logical_definitions}
 use Rattle.hol_model.specs.Logic.Theory.{Theory, generic_type}
 use Rattle.hol_model.specs.Logic.KnownTerm.{is_declared}
@@ -7,7 +8,6 @@ use Rattle.hol_model.specs.Kernel.Theorem.{Theorem}
 use Rattle.hol_model.specs.Texts.Reading.{Scope}
 use Rattle.hol_model_sessions.specs.Sessions.{State, with_theorem}
 use Rattle.hol_prelude.specs.Prelude.{prelude_theorems}
-use Rattle.hol_script_session.specs.declared.beginning.StoredTheorem.{StoredTheorem}
 
 -- the scope knows the constants and the types of the theory, and no variables
 pub record IsScopeOf (scope : Scope) (theory : Theory) : Type 0 where
@@ -19,9 +19,13 @@ pub record IsScopeOf (scope : Scope) (theory : Theory) : Type 0 where
 abbrev pub logical_state : State
 logical_state = record { theory = logical_definitions; variables = λ _. None; theorems = λ _. None }
 
--- the name, and the theorem of the number among those of the prelude
+-- a name, and the number of a theorem among those of the prelude
+abbrev pub StoredTheorem : Type 0
+StoredTheorem = Bor (List ℕ) × ℕ
+
+-- the name, and the theorem of the number
 abbrev pub IsStoredTheorem : StoredTheorem → List ℕ × Theorem → Type 0
-IsStoredTheorem stored named = (stored.name.now ≡ named.0) × (slice_get prelude_theorems stored.number ≡ Some named.1)
+IsStoredTheorem stored named = (stored.0.now ≡ named.0) × (slice_get prelude_theorems stored.1 ≡ Some named.1)
 
 -- the same of each entry of a table
 abbrev pub AreStoredTheorems : List StoredTheorem → List (List ℕ × Theorem) → Type 0

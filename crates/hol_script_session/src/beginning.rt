@@ -13,86 +13,20 @@ use hol_syntax::Scope;
 use hol_types::Ty;
 use std::alloc::Global;
 
-/// The name under which a theorem is stored, and its number among those of the prelude.
-pub(crate) struct StoredTheorem<'a> {
-    pub name: &'a str,
-    pub number: usize,
-}
-
-const T_DEF: StoredTheorem<'static> = StoredTheorem {
-    name: "T_DEF",
-    number: 0,
-};
-
-const AND_DEF: StoredTheorem<'static> = StoredTheorem {
-    name: "AND_DEF",
-    number: 1,
-};
-
-const IMP_DEF: StoredTheorem<'static> = StoredTheorem {
-    name: "IMP_DEF",
-    number: 2,
-};
-
-const FORALL_DEF: StoredTheorem<'static> = StoredTheorem {
-    name: "FORALL_DEF",
-    number: 3,
-};
-
-const EXISTS_DEF: StoredTheorem<'static> = StoredTheorem {
-    name: "EXISTS_DEF",
-    number: 4,
-};
-
-const OR_DEF: StoredTheorem<'static> = StoredTheorem {
-    name: "OR_DEF",
-    number: 5,
-};
-
-const F_DEF: StoredTheorem<'static> = StoredTheorem {
-    name: "F_DEF",
-    number: 6,
-};
-
-const NOT_DEF: StoredTheorem<'static> = StoredTheorem {
-    name: "NOT_DEF",
-    number: 7,
-};
-
-const TRUTH: StoredTheorem<'static> = StoredTheorem {
-    name: "TRUTH",
-    number: 8,
-};
-
-const ETA_AX: StoredTheorem<'static> = StoredTheorem {
-    name: "ETA_AX",
-    number: numbers::ETA_AX,
-};
-
-const SELECT_AX: StoredTheorem<'static> = StoredTheorem {
-    name: "SELECT_AX",
-    number: numbers::SELECT_AX,
-};
-
-const EXCLUDED_MIDDLE: StoredTheorem<'static> = StoredTheorem {
-    name: "EXCLUDED_MIDDLE",
-    number: 35,
-};
-
-/// The theorems that are stored when a script begins, in order.
-pub(crate) const STORED: [StoredTheorem<'static>; 12] = [
-    T_DEF,
-    AND_DEF,
-    IMP_DEF,
-    FORALL_DEF,
-    EXISTS_DEF,
-    OR_DEF,
-    F_DEF,
-    NOT_DEF,
-    TRUTH,
-    ETA_AX,
-    SELECT_AX,
-    EXCLUDED_MIDDLE,
+/// The theorems that are stored when a script begins, in order: the name of each, and its number among those of the prelude.
+pub(crate) const STORED: [(&str, usize); 12] = [
+    ("T_DEF", 0),
+    ("AND_DEF", 1),
+    ("IMP_DEF", 2),
+    ("FORALL_DEF", 3),
+    ("EXISTS_DEF", 4),
+    ("OR_DEF", 5),
+    ("F_DEF", 6),
+    ("NOT_DEF", 7),
+    ("TRUTH", 8),
+    ("ETA_AX", numbers::ETA_AX),
+    ("SELECT_AX", numbers::SELECT_AX),
+    ("EXCLUDED_MIDDLE", 35),
 ];
 
 // The type `bool->bool`.

@@ -25,7 +25,7 @@ ghost use Rattle.hol_theorem_store.specs.Store.{stored_of};
 ghost use Rattle.hol_script_session.specs.SessionState.{state_of, lemmas_of, IsSession, IsLaterLibrary, StaysMade};
 ghost use Rattle.hol_script_session.specs.StoredClaims.{stored_claims, IsAcceptedLog, IsLongLog};
 
-use crate::beginning::{STORED, StoredTheorem, logical_scope};
+use crate::beginning::{STORED, logical_scope};
 use crate::growth::libraries_grow;
 use crate::known::knows_type;
 use crate::lines::{TheoremLine, definition_line, definition_name, is_theorem_name, theorem_line};
@@ -78,7 +78,7 @@ impl Session {
     }
 
     // Stores the theorems of a table, which are those of the prelude.
-    fn store_all(&mut self, alloc: Global, table: &[StoredTheorem<'_>]) -> Result<(), Fault>
+    fn store_all(&mut self, alloc: Global, table: &[(&str, usize)]) -> Result<(), Fault>
         requires session { IsSession self.old }
         requires table { AreStoredTheorems table.now stored_theorems }
         ensures ok { OnOk result (state_of self.new ≡ with_theorems (state_of self.old) stored_theorems) }
@@ -88,7 +88,7 @@ impl Session {
     {
         for at in 0..table.len() {
             let stored = &table[at];
-            self.store_numbered(alloc, stored.name, stored.number)?;
+            self.store_numbered(alloc, stored.0, stored.1)?;
         }
         Ok(())
     }

@@ -43,25 +43,13 @@ struct TermReader<'a> {
     complete: bool,
 }
 
-fn level_of(operation: Infix) -> u8
-    ensures { result ≡ infix_level (infix_here operation) }
-{
-    match operation {
-        Infix::Iff => 2,
-        Infix::Implies => 4,
-        Infix::Or => 6,
-        Infix::And => 8,
-        Infix::Equal => 12,
-    }
-}
-
 // The level of the term that is made.
 fn level_made(waiting: Waiting) -> u8
     ensures { result ≡ waiting_level waiting }
 {
     match waiting {
         Waiting::Not => 14,
-        Waiting::Right(operation) => level_of(operation),
+        Waiting::Right(operation) => operation.level(),
         Waiting::Body(_) => 0,
     }
 }
@@ -191,7 +179,7 @@ impl<'a> TermReader<'a> {
         ensures { (opens : List Pending) (t : TermTree) → IsState self.old opens (Some t)
             → Takes result self.new (joined (infix_here operation) (close (infix_level (infix_here operation) + 1) opens t)) }
     {
-        self.close(level_of(operation) + 1)?;
+        self.close(operation.level() + 1)?;
         self.open_place(Open::Waits(Waiting::Right(operation)))
     }
 

@@ -19,9 +19,7 @@ ghost use Rattle.hol_syntax_print.specs.Shape.{shape_tree, joined_tree, IsNamed}
 
 use crate::innermost::Innermost;
 use crate::output::{append, close, open, print_type, print_typed};
-use crate::shape::{
-    Shape, binder_text, infix_level, infix_text, is_bare_constant, is_bound, level, shape_of,
-};
+use crate::shape::{Shape, binder_text, infix_text, is_bare_constant, is_bound, level, shape_of};
 use hol_model::Fault;
 use hol_syntax::Scope;
 use hol_syntax_grammar::grammar::{Binder, Infix};
@@ -159,7 +157,7 @@ fn print_infix(
         (term_bytes (joined_tree (infix_here operation) (term_tree (scope_of scope.now) bindings left.now) (term_tree (scope_of scope.now) bindings right.now)))) }
     ensures kept { (bindings : Bindings) → IsInnermost binders.old bindings → OnOk result (IsInnermost binders.new bindings) }
 {
-    let level = infix_level(operation);
+    let level = operation.level();
     print_term(left, scope, level + 1, binders, out)?;
     append(out, infix_text(operation))?;
     print_term(right, scope, level, binders, out)

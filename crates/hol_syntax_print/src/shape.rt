@@ -2,7 +2,6 @@
 ghost use Rattle.std.specs.Prelude.{◌≡◌, ◌+◌, ◌<◌, ◌∷◌, ◌++◌, []};
 ghost use Rattle.std.specs.Option.{option_map};
 ghost use Rattle.hol_model.specs.Terms.NamedTerm.{combination};
-ghost use Rattle.hol_model.specs.Texts.TermGrammar as grammar;
 ghost use Rattle.hol_model.specs.Texts.TermGrammar.{infix_symbol, binder_symbol};
 ghost use Rattle.hol_model.specs.Texts.Token.{symbol_text};
 ghost use Rattle.hol_model.specs.Texts.Printing as printing;
@@ -231,20 +230,6 @@ pub fn shape_of(term: &Term) -> Shape<'_>
     }
 }
 
-/// The level of an infix.
-pub fn infix_level(operation: Infix) -> u8
-    ensures value { result ≡ grammar.infix_level (infix_here operation) }
-    ensures small { result < 20 }
-{
-    match operation {
-        Infix::Iff => 2,
-        Infix::Implies => 4,
-        Infix::Or => 6,
-        Infix::And => 8,
-        Infix::Equal => 12,
-    }
-}
-
 /// The level of a form.
 pub fn level(shape: Shape<'_>) -> u8
     ensures { result ≡ shape_level shape.entry }
@@ -253,7 +238,7 @@ pub fn level(shape: Shape<'_>) -> u8
         Shape::Variable(_, _) | Shape::Constant(_, _) => 20,
         Shape::Apply(_, _) => 16,
         Shape::Not(_) => 14,
-        Shape::Join(operation, _, _) => infix_level(operation),
+        Shape::Join(operation, _, _) => operation.level(),
         Shape::Bind(_, _, _, _) => 0,
     }
 }

@@ -10,4 +10,5 @@ mod tac;
 pub use conv::{Conv, Prefix};
 pub use fuel::{Fuel, is_caught};
 pub use leaf::Leaf;
+pub use making::name_copies;
 pub use tac::{Link, Tac};

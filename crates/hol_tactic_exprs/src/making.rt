@@ -74,7 +74,8 @@ fn conv_copies(alloc: Global, convs: &[Conv]) -> Result<Vec<Conv>, Fault>
     Ok(copies)
 }
 
-fn name_copies(alloc: Global, names: &[String]) -> Result<Vec<String>, Fault>
+/// The same names. Refused: Memory.
+pub fn name_copies(alloc: Global, names: &[String]) -> Result<Vec<String>, Fault>
     ensures ok { IfOk result (λ made. map string_bytes made.items ≡ map string_bytes names.now) }
     ensures err { IfErr result (λ fault. fault ≡ Memory) }
 {

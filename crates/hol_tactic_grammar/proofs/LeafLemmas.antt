@@ -18,9 +18,10 @@ use Rattle.hol_syntax_grammar.specs.TermSteps.{FlatStep}
 use Rattle.hol_tactic_grammar.specs.declared.tactic_words.Plain.{Plain}
 use Rattle.hol_tactic_grammar.specs.declared.tactic_words.Named.{Named}
 use Rattle.hol_tactic_grammar.specs.declared.tactic_words.Quoted.{Quoted}
-use Rattle.hol_tactic_grammar.specs.declared.tactic_words.Other.TheVariants.{Repeat, Try, Conv, Rewrite}
+use Rattle.hol_tactic_grammar.specs.declared.tactic_words.Other.TheVariants.{Conv, Rewrite}
 use Rattle.hol_tactic_grammar.specs.declared.tactic_words.Start.{Start}
-use Rattle.hol_tactic_grammar.specs.declared.tactic_words.Start.TheVariants.{OfPlain, OfNamed, OfQuoted, OfOther}
+use Rattle.hol_tactic_grammar.specs.declared.tactic_words.Start.TheVariants.{OfPrefix, OfPlain, OfNamed, OfQuoted, OfOther}
+use Rattle.hol_tactic_grammar.specs.declared.tactics.Prefix.TheVariants.{Repeat, Try}
 use Rattle.hol_tactic_grammar.specs.TacticWords.{plain_of, named_of, quoted_of, start_word, start_of_word}
 use Rattle.hol_tactic_grammar.specs.Tokens.{behind, IsAt, ReadsName}
 use Rattle.hol_tactic_grammar.specs.Conversions as conversions
@@ -64,8 +65,7 @@ no-unit room tokens no_mark no_name = go
 
 -- a word of a refiner without parts
 abbrev pub IsOfLeaf : Start → Type 0
-IsOfLeaf (OfOther Repeat) = ⊥
-IsOfLeaf (OfOther Try) = ⊥
+IsOfLeaf (OfPrefix prefix) = ⊥
 IsOfLeaf start = Unit {0}
 
 other-start : {A : Type 0} (start one : Start) → IsOfLeaf start → (IsOfLeaf one → A) → ◌≡◌ {A = Option Start} (Some one) (Some start) → A
@@ -79,8 +79,8 @@ pub leaf-read : (start : Start) (tactic : TacticLeaf TermTree) (room : ℕ) (tok
 leaf-read start tactic room tokens inner rest meaning begins is_leaf fits spelled means leaves = record { tree = leaf tactic; fits = fits; spelled = spelled; means = means; only = only }
   where
     only : (other : TacticUnit TermTree) (left : List Token) → FitsUnit room other → tokens ≡ tactic_unit_tokens other left → left ≡ rest
-    only (repeated operand) left small same = other-start start (OfOther Repeat) is_leaf (λ never. absurd never) (begins-with start tokens inner (repeated operand) left begins same)
-    only (tried operand) left small same = other-start start (OfOther Try) is_leaf (λ never. absurd never) (begins-with start tokens inner (tried operand) left begins same)
+    only (repeated operand) left small same = other-start start (OfPrefix Repeat) is_leaf (λ never. absurd never) (begins-with start tokens inner (repeated operand) left begins same)
+    only (tried operand) left small same = other-start start (OfPrefix Try) is_leaf (λ never. absurd never) (begins-with start tokens inner (tried operand) left begins same)
     only (enclosed inner_tactic) left small same = (let one = begins-with start tokens inner (enclosed inner_tactic) left begins same in cc)
     only (leaf other) left small same =
         let one : ◌≡◌ {A = Option Start} (Some (start_of_leaf other)) (Some start) = begins-with start tokens inner (leaf other) left begins same in
@@ -92,8 +92,8 @@ pub leaf-none : (start : Start) (room : ℕ) (tokens inner : List Token) → tok
 leaf-none start room tokens inner begins is_leaf leaves = go
   where
     go : IsNoUnit room tokens
-    go (repeated operand) left small same = other-start start (OfOther Repeat) is_leaf (λ never. never) (begins-with start tokens inner (repeated operand) left begins same)
-    go (tried operand) left small same = other-start start (OfOther Try) is_leaf (λ never. never) (begins-with start tokens inner (tried operand) left begins same)
+    go (repeated operand) left small same = other-start start (OfPrefix Repeat) is_leaf (λ never. never) (begins-with start tokens inner (repeated operand) left begins same)
+    go (tried operand) left small same = other-start start (OfPrefix Try) is_leaf (λ never. never) (begins-with start tokens inner (tried operand) left begins same)
     go (enclosed inner_tactic) left small same = (let one = begins-with start tokens inner (enclosed inner_tactic) left begins same in cc)
     go (leaf other) left small same =
         let one : ◌≡◌ {A = Option Start} (Some (start_of_leaf other)) (Some start) = begins-with start tokens inner (leaf other) left begins same in

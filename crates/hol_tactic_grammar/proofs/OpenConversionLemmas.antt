@@ -1,5 +1,5 @@
 -- What each step leads to, around a unit of a conversion.
-use Rattle.std.proofs.Common.{◌≡◌, ℕ, ◌+◌, ◌-◌, ◌<◌, ◌≤◌, arith, List, [], ◌∷◌, ◌++◌, map, length, reverse, refl, sym, ◌∙◌, ap, subst, Ok, Err, Vec, Global}
+use Rattle.std.proofs.Common.{◌≡◌, ℕ, ◌+◌, ◌-◌, ◌<◌, ◌≤◌, arith, List, [], ◌∷◌, ◌++◌, map, length, reverse, refl, sym, ◌∙◌, ap, subst, Result, Ok, Err, Vec, Global}
 use Rattle.std.proofs.lemmas.List.{reverse-append}
 use Rattle.std.specs.Prelude.{codes}
 use Rattle.hol_model.specs.declared.symbol.Symbol.TheVariants.{OpenParenthesis, CloseParenthesis}
@@ -15,11 +15,12 @@ use Rattle.hol_syntax_grammar.specs.declared.type_reader.ReadError.{ReadError}
 use Rattle.hol_syntax_grammar.specs.declared.type_reader.ReadError.TheVariants.{Memory, Syntax}
 use Rattle.hol_tactic_grammar.specs.declared.conversions.Open.{Open}
 use Rattle.hol_tactic_grammar.specs.declared.conversions.Open.TheVariants.{Prefixed, Enclosed}
+use Rattle.hol_tactic_grammar.specs.declared.conversions.Step.{Step}
 use Rattle.hol_tactic_grammar.specs.declared.conversions.Step.TheVariants.{Begin, Close}
 use Rattle.hol_tactic_grammar.specs.ConversionWords.{conversional_of}
 use Rattle.hol_tactic_grammar.specs.Tokens.{behind, IsAt, IsNotAt}
 use Rattle.hol_tactic_grammar.specs.Conversions.{IsUnit, IsNoUnit, IsWhole, Reaches, ReadsUnit}
-use Rattle.hol_tactic_grammar.specs.OpenConversions.{joined, IsEnclosed, Opens, AreOpen, IsWanted, IsRead, IsReadChoice, Goes, Enters, IsWholePart, IsChoicePart}
+use Rattle.hol_tactic_grammar.specs.OpenConversions.{joined, IsEnclosed, Opens, AreOpen, IsWanted, IsRead, IsReadChoice, Goes, Leads, Enters, IsWholePart, IsChoicePart}
 use Rattle.hol_tactic_grammar.proofs.ConversionLemmas.{prefix-read, prefix-refused, prefix-too-deep, enclosed-read, enclosed-open, enclosed-refused, enclosed-too-deep, made-of, choice-begun}
 use Rattle.hol_tactic_grammar.proofs.ConversionLemmas.{choice-goes-on, choice-ended, choice-refused, whole-begun, whole-goes-on, whole-ended, whole-refused}
 
@@ -58,15 +59,6 @@ counted (place ∷ places) at room start limit tokens around =
 
 -- ---- a place that is opened
 
-pub unopened : (place : Open) (error : ReadError) (old new : List Open) (at start limit : ℕ) (tokens : List TokenHere) → IsNoUnit 0 (behind at tokens) → IsWanted old at start limit tokens
-    → Enters (Err error) place limit old new → ReadsUnit (Err error) start limit tokens
-unopened place Memory old new at start limit tokens none wanted full = tt
-unopened place Syntax old new at start limit tokens none wanted full =
-    let count : wanted.room + length old ≡ limit = counted old at wanted.room start limit tokens wanted.around in
-    let past : limit ≤ length old = full in
-    let used : 0 ≡ wanted.room = omega arith in
-    unread old Syntax at wanted.room start limit tokens wanted.around (subst (λ (n : ℕ). IsNoUnit n (behind at tokens)) used none)
-
 opened : (place : Open) (old new : List Open) (at start limit : ℕ) (tokens : List TokenHere) → at < length tokens → ((room : ℕ) → Opens place at (at + 1) room tokens)
     → IsWanted old at start limit tokens → length old < limit → new ≡ place ∷ old → Goes (Begin (at + 1)) at (length old) new start limit tokens
 opened place old new at start limit tokens within opens wanted free is = subst (λ (ps : List Open). Goes (Begin (at + 1)) at (length old) ps start limit tokens) (sym is) (record {
@@ -83,15 +75,31 @@ opened place old new at start limit tokens within opens wanted free is = subst (
     more : wanted.room - 1 + 1 ≡ wanted.room
     more = omega (arith, count, free)
 
-pub prefixed-opened : (prefix : Prefix) (old new : List Open) (at start limit : ℕ) (tokens : List TokenHere) → IsAt (Name (conversional_word (conversional_of prefix))) at tokens
-    → IsWanted old at start limit tokens → length old < limit → new ≡ Prefixed prefix ∷ old → Goes (Begin (at + 1)) at (length old) new start limit tokens
-prefixed-opened prefix old new at start limit tokens front wanted free is =
-    opened (Prefixed prefix) old new at start limit tokens front.within (λ (room : ℕ). record { next = refl; front = front }) wanted free is
+-- a place that may be opened there, or as many are open as may be
+entered : (place : Open) (result : Result Step ReadError) (old new : List Open) (at start limit : ℕ) (tokens : List TokenHere) → at < length tokens
+    → ((room : ℕ) → Opens place at (at + 1) room tokens) → IsNoUnit 0 (behind at tokens) → Enters result place (at + 1) limit old new → IsWanted old at start limit tokens
+    → Leads result at (length old) new start limit tokens
+entered place (Ok step) old new at start limit tokens within opens none enters wanted =
+    subst (λ (s : Step). Goes s at (length old) new start limit tokens) (sym enters.0) (opened place old new at start limit tokens within opens wanted enters.1 enters.2)
+entered place (Err Memory) old new at start limit tokens within opens none enters wanted = tt
+entered place (Err Syntax) old new at start limit tokens within opens none enters wanted =
+    let count : wanted.room + length old ≡ limit = counted old at wanted.room start limit tokens wanted.around in
+    let past : limit ≤ length old = enters in
+    let used : 0 ≡ wanted.room = omega arith in
+    unread old Syntax at wanted.room start limit tokens wanted.around (subst (λ (n : ℕ). IsNoUnit n (behind at tokens)) used none)
 
-pub enclosed-opened : (parts units : Vec Conv Global) (old new : List Open) (at start limit : ℕ) (tokens : List TokenHere) → parts.items ≡ [] → units.items ≡ [] → IsAt (Mark OpenParenthesis) at tokens
-    → IsWanted old at start limit tokens → length old < limit → new ≡ Enclosed parts units ∷ old → Goes (Begin (at + 1)) at (length old) new start limit tokens
-enclosed-opened parts units old new at start limit tokens no_parts no_units front wanted free is =
-    opened (Enclosed parts units) old new at start limit tokens front.within
+pub prefixed-entered : (prefix : Prefix) (result : Result Step ReadError) (old new : List Open) (at start limit : ℕ) (tokens : List TokenHere)
+    → IsAt (Name (conversional_word (conversional_of prefix))) at tokens → Enters result (Prefixed prefix) (at + 1) limit old new → IsWanted old at start limit tokens
+    → Leads result at (length old) new start limit tokens
+prefixed-entered prefix result old new at start limit tokens front enters wanted =
+    entered (Prefixed prefix) result old new at start limit tokens front.within (λ (room : ℕ). record { next = refl; front = front })
+    (prefix-too-deep prefix (behind at tokens) (behind (at + 1) tokens) front.front) enters wanted
+
+pub enclosed-entered : (parts units : Vec Conv Global) (result : Result Step ReadError) (old new : List Open) (at start limit : ℕ) (tokens : List TokenHere) → parts.items ≡ [] → units.items ≡ []
+    → IsAt (Mark OpenParenthesis) at tokens → Enters result (Enclosed parts units) (at + 1) limit old new → IsWanted old at start limit tokens
+    → Leads result at (length old) new start limit tokens
+enclosed-entered parts units result old new at start limit tokens no_parts no_units front enters wanted =
+    entered (Enclosed parts units) result old new at start limit tokens front.within
     (λ (room : ℕ). record {
       start = behind (at + 1) tokens;
       front = front;
@@ -99,18 +107,7 @@ enclosed-opened parts units old new at start limit tokens no_parts no_units fron
       whole = subst (λ (cs : List Conv). IsWholePart room (behind (at + 1) tokens) (behind (at + 1) tokens) (map conversion_of cs)) (sym no_parts) (whole-begun room (behind (at + 1) tokens));
       choice = subst (λ (cs : List Conv). IsChoicePart room (behind (at + 1) tokens) (behind (at + 1) tokens) (map conversion_of cs)) (sym no_units) (choice-begun room (behind (at + 1) tokens));
     })
-    wanted free is
-
-pub prefixed-unopened : (prefix : Prefix) (error : ReadError) (old new : List Open) (at start limit : ℕ) (tokens : List TokenHere)
-    → IsAt (Name (conversional_word (conversional_of prefix))) at tokens → IsWanted old at start limit tokens → Enters (Err error) (Prefixed prefix) limit old new
-    → ReadsUnit (Err error) start limit tokens
-prefixed-unopened prefix error old new at start limit tokens front wanted full =
-    unopened (Prefixed prefix) error old new at start limit tokens (prefix-too-deep prefix (behind at tokens) (behind (at + 1) tokens) front.front) wanted full
-
-pub enclosed-unopened : (place : Open) (error : ReadError) (old new : List Open) (at start limit : ℕ) (tokens : List TokenHere) → IsAt (Mark OpenParenthesis) at tokens
-    → IsWanted old at start limit tokens → Enters (Err error) place limit old new → ReadsUnit (Err error) start limit tokens
-enclosed-unopened place error old new at start limit tokens front wanted full =
-    unopened place error old new at start limit tokens (enclosed-too-deep (behind at tokens) (behind (at + 1) tokens) front.front) wanted full
+    (enclosed-too-deep (behind at tokens) (behind (at + 1) tokens) front.front) enters wanted
 
 -- a unit without parts
 pub leaf-taken : (conv : Conv) (places : List Open) (at next start limit : ℕ) (tokens : List TokenHere) → ((room : ℕ) → ReadsUnit (Ok (conv, next)) at room tokens)

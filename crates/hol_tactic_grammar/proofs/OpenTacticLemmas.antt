@@ -27,7 +27,8 @@ use Rattle.hol_tactic_grammar.specs.Tokens.{behind, IsAt, IsNotAt}
 use Rattle.hol_tactic_grammar.specs.Conversions.{Without}
 use Rattle.hol_tactic_grammar.specs.Expressions.{Kept, Joint, repeat, try, on_each, then_on, or_else, expression_here, joint_here, all_expressions, all_links}
 use Rattle.hol_tactic_grammar.specs.Tactics.{Meaning, with_prefix, IsUnit, IsNoUnit, IsNoChoice, with_choice, with_list, IsNoLink, IsWhole, IsNoWhole, ReadsUnit, Means, ReadsTactic, Fits}
-use Rattle.hol_tactic_grammar.specs.OpenTactics.{prefix_word, IsChoiceFront, IsChainFront, IsListFront, IsListPlace, WantsChoice, WantsChain, AreOpen, HasUnit, HasChoice, HasChoiceWhole, HasChain, HasWhole}
+use Rattle.hol_tactic_grammar.specs.TacticWords.{prefix_word}
+use Rattle.hol_tactic_grammar.specs.OpenTactics.{IsChoiceFront, IsChainFront, IsListFront, IsListPlace, WantsChoice, WantsChain, AreOpen, HasUnit, HasChoice, HasChoiceWhole, HasChain, HasWhole}
 use Rattle.hol_tactic_grammar.specs.OpenTactics.{opens_of, IsReading, turns_left, Goes, Waits, Nests, Closes, AddsElement, unit_read, unit_made}
 use Rattle.hol_tactic_grammar.proofs.TacticLemmas.{repeat-read, repeat-none, try-read, try-none, enclosed-read, enclosed-open, enclosed-too-deep, enclosed-refused, choice-begins, choice-goes-on}
 use Rattle.hol_tactic_grammar.proofs.TacticLemmas.{choice-ended, choice-broken, choice-refused, whole-begins, whole-goes-on, whole-ended, whole-broken, whole-refused, then-read, thenl-read}

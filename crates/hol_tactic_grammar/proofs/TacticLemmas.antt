@@ -15,9 +15,9 @@ use Rattle.hol_tactic_exprs.specs.declared.tac.Tac.{Tac}
 use Rattle.hol_tactic_exprs.specs.declared.tac.Link.{Link}
 use Rattle.hol_syntax_grammar.specs.declared.token.Token.{Token as TokenHere}
 use Rattle.hol_syntax_grammar.specs.TermSteps.{FlatStep}
-use Rattle.hol_tactic_grammar.specs.declared.tactic_words.Other.{Other}
-use Rattle.hol_tactic_grammar.specs.declared.tactic_words.Other.TheVariants.{Repeat, Try, Conv, Rewrite}
-use Rattle.hol_tactic_grammar.specs.declared.tactic_words.Start.TheVariants.{OfOther}
+use Rattle.hol_tactic_grammar.specs.declared.tactic_words.Start.TheVariants.{OfPrefix}
+use Rattle.hol_tactic_grammar.specs.declared.tactics.Prefix.{Prefix}
+use Rattle.hol_tactic_grammar.specs.declared.tactics.Prefix.TheVariants.{Repeat, Try}
 use Rattle.hol_tactic_grammar.specs.Tokens.{behind}
 use Rattle.hol_tactic_grammar.specs.Conversions.{Without}
 use Rattle.hol_tactic_grammar.specs.Quotes.{steps_of_tree}
@@ -76,24 +76,12 @@ list-rest room tactic list fits = record { nested = omega (arith, fits.nested, l
 
 -- ---- REPEAT and TRY
 
-abbrev IsPrefix : Other → Type 0
-IsPrefix Repeat = Unit {0}
-IsPrefix Try = Unit {0}
-IsPrefix other = ⊥
-
-leaf-other : {A : Type 0} (other : Other) (tactic : TacticLeaf TermTree) → IsPrefix other → start_of_unit (leaf tactic) ≡ Some (OfOther other) → A
-leaf-other Repeat (grammar.plain tactic) is same = cc
-leaf-other Repeat (grammar.by_name tactic name) is same = cc
-leaf-other Repeat (grammar.by_quote tactic tree) is same = cc
-leaf-other Repeat (grammar.conv_tac conversion) is same = cc
-leaf-other Repeat (grammar.rewrite_tac names) is same = cc
-leaf-other Try (grammar.plain tactic) is same = cc
-leaf-other Try (grammar.by_name tactic name) is same = cc
-leaf-other Try (grammar.by_quote tactic tree) is same = cc
-leaf-other Try (grammar.conv_tac conversion) is same = cc
-leaf-other Try (grammar.rewrite_tac names) is same = cc
-leaf-other Conv tactic is same = absurd is
-leaf-other Rewrite tactic is same = absurd is
+leaf-prefix : {A : Type 0} (prefix : Prefix) (tactic : TacticLeaf TermTree) → start_of_unit (leaf tactic) ≡ Some (OfPrefix prefix) → A
+leaf-prefix prefix (grammar.plain tactic) same = cc
+leaf-prefix prefix (grammar.by_name tactic name) same = cc
+leaf-prefix prefix (grammar.by_quote tactic tree) same = cc
+leaf-prefix prefix (grammar.conv_tac conversion) same = cc
+leaf-prefix prefix (grammar.rewrite_tac names) same = cc
 
 pub repeat-read : (room less : ℕ) (tokens inner rest : List Token) (meaning made : Meaning) → made ≡ repeat meaning → less + 1 ≡ room → tokens ≡ Name (codes "REPEAT") ∷ inner
     → IsUnit less inner rest meaning → IsUnit room tokens rest made
@@ -110,9 +98,9 @@ repeat-read room less tokens inner rest meaning made is deeper begins read = rec
         let both : Name (codes "REPEAT") ∷ inner ≡ Name (codes "REPEAT") ∷ tactic_unit_tokens operand left = sym begins ∙ same in
         let further : inner ≡ tactic_unit_tokens operand left = cc in
         read.only operand left (record { nested = omega (arith, fits.nested, deeper); quotable = fits.quotable }) further
-    only (tried operand) left fits same = (let one = begins-with (OfOther Repeat) tokens inner (tried operand) left begins same in cc)
-    only (enclosed tactic) left fits same = (let one = begins-with (OfOther Repeat) tokens inner (enclosed tactic) left begins same in cc)
-    only (leaf tactic) left fits same = leaf-other Repeat tactic tt (begins-with (OfOther Repeat) tokens inner (leaf tactic) left begins same)
+    only (tried operand) left fits same = (let one = begins-with (OfPrefix Repeat) tokens inner (tried operand) left begins same in cc)
+    only (enclosed tactic) left fits same = (let one = begins-with (OfPrefix Repeat) tokens inner (enclosed tactic) left begins same in cc)
+    only (leaf tactic) left fits same = leaf-prefix Repeat tactic (begins-with (OfPrefix Repeat) tokens inner (leaf tactic) left begins same)
 
 -- whatever keeps a unit from standing behind REPEAT
 pub repeat-none : (room : ℕ) (tokens inner : List Token) → tokens ≡ Name (codes "REPEAT") ∷ inner
@@ -124,9 +112,9 @@ repeat-none room tokens inner begins none = go
         let both : Name (codes "REPEAT") ∷ inner ≡ Name (codes "REPEAT") ∷ tactic_unit_tokens operand left = sym begins ∙ same in
         let further : inner ≡ tactic_unit_tokens operand left = cc in
         none operand left fits further
-    go (tried operand) left fits same = (let one = begins-with (OfOther Repeat) tokens inner (tried operand) left begins same in cc)
-    go (enclosed tactic) left fits same = (let one = begins-with (OfOther Repeat) tokens inner (enclosed tactic) left begins same in cc)
-    go (leaf tactic) left fits same = leaf-other Repeat tactic tt (begins-with (OfOther Repeat) tokens inner (leaf tactic) left begins same)
+    go (tried operand) left fits same = (let one = begins-with (OfPrefix Repeat) tokens inner (tried operand) left begins same in cc)
+    go (enclosed tactic) left fits same = (let one = begins-with (OfPrefix Repeat) tokens inner (enclosed tactic) left begins same in cc)
+    go (leaf tactic) left fits same = leaf-prefix Repeat tactic (begins-with (OfPrefix Repeat) tokens inner (leaf tactic) left begins same)
 
 pub try-read : (room less : ℕ) (tokens inner rest : List Token) (meaning made : Meaning) → made ≡ try meaning → less + 1 ≡ room → tokens ≡ Name (codes "TRY") ∷ inner
     → IsUnit less inner rest meaning → IsUnit room tokens rest made
@@ -143,9 +131,9 @@ try-read room less tokens inner rest meaning made is deeper begins read = record
         let both : Name (codes "TRY") ∷ inner ≡ Name (codes "TRY") ∷ tactic_unit_tokens operand left = sym begins ∙ same in
         let further : inner ≡ tactic_unit_tokens operand left = cc in
         read.only operand left (record { nested = omega (arith, fits.nested, deeper); quotable = fits.quotable }) further
-    only (repeated operand) left fits same = (let one = begins-with (OfOther Try) tokens inner (repeated operand) left begins same in cc)
-    only (enclosed tactic) left fits same = (let one = begins-with (OfOther Try) tokens inner (enclosed tactic) left begins same in cc)
-    only (leaf tactic) left fits same = leaf-other Try tactic tt (begins-with (OfOther Try) tokens inner (leaf tactic) left begins same)
+    only (repeated operand) left fits same = (let one = begins-with (OfPrefix Try) tokens inner (repeated operand) left begins same in cc)
+    only (enclosed tactic) left fits same = (let one = begins-with (OfPrefix Try) tokens inner (enclosed tactic) left begins same in cc)
+    only (leaf tactic) left fits same = leaf-prefix Try tactic (begins-with (OfPrefix Try) tokens inner (leaf tactic) left begins same)
 
 -- whatever keeps a unit from standing behind TRY
 pub try-none : (room : ℕ) (tokens inner : List Token) → tokens ≡ Name (codes "TRY") ∷ inner
@@ -157,9 +145,9 @@ try-none room tokens inner begins none = go
         let both : Name (codes "TRY") ∷ inner ≡ Name (codes "TRY") ∷ tactic_unit_tokens operand left = sym begins ∙ same in
         let further : inner ≡ tactic_unit_tokens operand left = cc in
         none operand left fits further
-    go (repeated operand) left fits same = (let one = begins-with (OfOther Try) tokens inner (repeated operand) left begins same in cc)
-    go (enclosed tactic) left fits same = (let one = begins-with (OfOther Try) tokens inner (enclosed tactic) left begins same in cc)
-    go (leaf tactic) left fits same = leaf-other Try tactic tt (begins-with (OfOther Try) tokens inner (leaf tactic) left begins same)
+    go (repeated operand) left fits same = (let one = begins-with (OfPrefix Try) tokens inner (repeated operand) left begins same in cc)
+    go (enclosed tactic) left fits same = (let one = begins-with (OfPrefix Try) tokens inner (enclosed tactic) left begins same in cc)
+    go (leaf tactic) left fits same = leaf-prefix Try tactic (begins-with (OfPrefix Try) tokens inner (leaf tactic) left begins same)
 
 -- ---- parentheses
 

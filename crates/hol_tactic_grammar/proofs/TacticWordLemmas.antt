@@ -11,9 +11,10 @@ use Rattle.hol_tactic_grammar.specs.declared.tactic_words.Named.{Named}
 use Rattle.hol_tactic_grammar.specs.declared.tactic_words.Named.TheVariants.{Accept, Assume, Mp, DisjCases, Choose, Host}
 use Rattle.hol_tactic_grammar.specs.declared.tactic_words.Quoted.{Quoted}
 use Rattle.hol_tactic_grammar.specs.declared.tactic_words.Quoted.TheVariants.{Exists, Undisch}
-use Rattle.hol_tactic_grammar.specs.declared.tactic_words.Other.TheVariants.{Repeat, Try, Conv, Rewrite}
+use Rattle.hol_tactic_grammar.specs.declared.tactic_words.Other.TheVariants.{Conv, Rewrite}
 use Rattle.hol_tactic_grammar.specs.declared.tactic_words.Start.{Start}
-use Rattle.hol_tactic_grammar.specs.declared.tactic_words.Start.TheVariants.{OfPlain, OfNamed, OfQuoted, OfOther}
+use Rattle.hol_tactic_grammar.specs.declared.tactic_words.Start.TheVariants.{OfPrefix, OfPlain, OfNamed, OfQuoted, OfOther}
+use Rattle.hol_tactic_grammar.specs.declared.tactics.Prefix.TheVariants.{Repeat, Try}
 use Rattle.hol_tactic_grammar.specs.TacticWords.{start_word, start_of_word}
 
 -- ---- words
@@ -38,8 +39,8 @@ start-known (OfNamed Choose) = refl
 start-known (OfNamed Host) = refl
 start-known (OfQuoted Exists) = refl
 start-known (OfQuoted Undisch) = refl
-start-known (OfOther Repeat) = refl
-start-known (OfOther Try) = refl
+start-known (OfPrefix Repeat) = refl
+start-known (OfPrefix Try) = refl
 start-known (OfOther Conv) = refl
 start-known (OfOther Rewrite) = refl
 
@@ -76,8 +77,8 @@ start_of_leaf (conv_tac conversion) = OfOther Conv
 start_of_leaf (rewrite_tac names) = OfOther Rewrite
 
 abbrev pub start_of_unit : TacticUnit TermTree → Option Start
-start_of_unit (repeated operand) = Some (OfOther Repeat)
-start_of_unit (tried operand) = Some (OfOther Try)
+start_of_unit (repeated operand) = Some (OfPrefix Repeat)
+start_of_unit (tried operand) = Some (OfPrefix Try)
 start_of_unit (enclosed tactic) = None
 start_of_unit (leaf tactic) = Some (start_of_leaf tactic)
 

@@ -1,4 +1,5 @@
 pub mod Tokens
+pub mod Words
 pub mod ConversionWords
 pub mod Conversions
 pub mod TacticWords

@@ -155,8 +155,8 @@ abbrev pub Leads : Result Step ReadError → ℕ → ℕ → List Open → ℕ �
 Leads (Ok step) at count places start limit tokens = Goes step at count places start limit tokens
 Leads (Err error) at count places start limit tokens = ReadsUnit (Err error) start limit tokens
 
--- the place is opened, unless as many are open as may be
-abbrev pub Enters : Result (Unit {0}) ReadError → Open → ℕ → List Open → List Open → Type 0
-Enters (Ok x) place limit old new = (length old < limit) × (new ≡ place ∷ old)
-Enters (Err Memory) place limit old new = Unit {0}
-Enters (Err Syntax) place limit old new = limit ≤ length old
+-- the place is opened, and a unit is wanted behind its front, unless as many are open as may be
+abbrev pub Enters : Result Step ReadError → Open → ℕ → ℕ → List Open → List Open → Type 0
+Enters (Ok step) place next limit old new = (step ≡ Begin next) × (length old < limit) × (new ≡ place ∷ old)
+Enters (Err Memory) place next limit old new = Unit {0}
+Enters (Err Syntax) place next limit old new = limit ≤ length old

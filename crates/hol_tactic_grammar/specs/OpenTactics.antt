@@ -13,8 +13,6 @@ use Rattle.hol_syntax_grammar.specs.declared.type_reader.ReadError.{ReadError}
 use Rattle.hol_syntax_grammar.specs.declared.type_reader.ReadError.TheVariants.{Memory, Syntax}
 use Rattle.hol_syntax_grammar.specs.TermSteps.{FlatStep}
 use Rattle.hol_syntax_grammar.specs.Views.{tokens_of}
-use Rattle.hol_tactic_grammar.specs.declared.tactics.Prefix.{Prefix}
-use Rattle.hol_tactic_grammar.specs.declared.tactics.Prefix.TheVariants.{Repeat, Try}
 use Rattle.hol_tactic_grammar.specs.declared.tactic_reader.Open.{Open}
 use Rattle.hol_tactic_grammar.specs.declared.tactic_reader.Open.TheVariants as places
 use Rattle.hol_tactic_grammar.specs.declared.tactic_reader.Reading.{Reading}
@@ -22,6 +20,7 @@ use Rattle.hol_tactic_grammar.specs.declared.tactic_reader.Reading.TheVariants.{
 use Rattle.hol_tactic_grammar.specs.declared.tactic_reader.Reader.{Reader}
 use Rattle.hol_tactic_grammar.specs.declared.tactic_reader.ListFront.{ListFront}
 use Rattle.hol_tactic_grammar.specs.declared.tactic_reader.ListFront.TheVariants.{Missing, Empty, Begun}
+use Rattle.hol_tactic_grammar.specs.TacticWords.{prefix_word}
 use Rattle.hol_tactic_grammar.specs.Tokens.{behind, IsAt, IsNotAt}
 use Rattle.hol_tactic_grammar.specs.Conversions.{Without}
 use Rattle.hol_tactic_grammar.specs.Quotes.{steps_of_tree}
@@ -109,10 +108,6 @@ pub record IsListPlace (room : ℕ) (tokens left : List Token) (taken : List Mea
   pub goes : (tree : Tactics TermTree) (rest : List Token) → FitsList room tree → tokens ≡ Mark OpenBracket ∷ first_tokens tree rest → HasNext room left rest
 
 -- ---- open places, the newest first
-
-abbrev pub prefix_word : Prefix → List ℕ
-prefix_word Repeat = codes "REPEAT"
-prefix_word Try = codes "TRY"
 
 -- a chain of ORELSE may begin behind them
 abbrev pub WantsChoice : List Open → Type 0

@@ -1,7 +1,8 @@
 // The words of conversions.
 ghost use Rattle.std.specs.Prelude.{◌≡◌};
-ghost use Rattle.hol_tactic_grammar.specs.ConversionWords.{prefix_of_word, depth_of_word, single_of_word};
+ghost use Rattle.hol_tactic_grammar.specs.ConversionWords.{prefix_of_word, single_of_word};
 
+use crate::words::meaning_in;
 use hol_tactic_exprs::Prefix;
 
 /// A conversion without parts, and without the name that it takes.
@@ -14,57 +15,38 @@ pub enum Single {
     Host,
 }
 
-// The conversional that a word names, of those that go to all subterms.
-fn depth_named(word: &str) -> Option<Prefix>
-    ensures { result ≡ depth_of_word word.now }
-{
-    if word == "SUB_CONV" {
-        Some(Prefix::Sub)
-    } else if word == "DEPTH_CONV" {
-        Some(Prefix::Depth)
-    } else if word == "ONCE_DEPTH_CONV" {
-        Some(Prefix::OnceDepth)
-    } else if word == "TOP_DEPTH_CONV" {
-        Some(Prefix::TopDepth)
-    } else {
-        None
-    }
-}
+// The conversional that each word names.
+const PREFIXES: [(&str, Prefix); 9] = [
+    ("REPEATC", Prefix::Repeat),
+    ("TRY_CONV", Prefix::Try),
+    ("RAND_CONV", Prefix::Rand),
+    ("RATOR_CONV", Prefix::Rator),
+    ("ABS_CONV", Prefix::Abs),
+    ("SUB_CONV", Prefix::Sub),
+    ("DEPTH_CONV", Prefix::Depth),
+    ("ONCE_DEPTH_CONV", Prefix::OnceDepth),
+    ("TOP_DEPTH_CONV", Prefix::TopDepth),
+];
+
+// The conversion without parts that each word names.
+const SINGLES: [(&str, Single); 5] = [
+    ("ALL_CONV", Single::All),
+    ("NO_CONV", Single::No),
+    ("BETA_CONV", Single::Beta),
+    ("REWR_CONV", Single::Rewr),
+    ("HOST", Single::Host),
+];
 
 /// The conversional that a word names.
 pub fn prefix_named(word: &str) -> Option<Prefix>
     ensures { result ≡ prefix_of_word word.now }
 {
-    if word == "REPEATC" {
-        Some(Prefix::Repeat)
-    } else if word == "TRY_CONV" {
-        Some(Prefix::Try)
-    } else if word == "RAND_CONV" {
-        Some(Prefix::Rand)
-    } else if word == "RATOR_CONV" {
-        Some(Prefix::Rator)
-    } else if word == "ABS_CONV" {
-        Some(Prefix::Abs)
-    } else {
-        depth_named(word)
-    }
+    meaning_in(&PREFIXES, word)
 }
 
 /// The conversion without parts that a word names.
 pub fn single_named(word: &str) -> Option<Single>
     ensures { result ≡ single_of_word word.now }
 {
-    if word == "ALL_CONV" {
-        Some(Single::All)
-    } else if word == "NO_CONV" {
-        Some(Single::No)
-    } else if word == "BETA_CONV" {
-        Some(Single::Beta)
-    } else if word == "REWR_CONV" {
-        Some(Single::Rewr)
-    } else if word == "HOST" {
-        Some(Single::Host)
-    } else {
-        None
-    }
+    meaning_in(&SINGLES, word)
 }

@@ -1,19 +1,17 @@
 // Conversions, read from tokens: one loop over the places that are open around a unit.
 ghost use Rattle.std.specs.Prelude.{◌≡◌, ℕ, ◌+◌, ◌<◌, ◌∷◌, length, reverse};
-ghost use Rattle.hol_model.specs.declared.symbol.Symbol.TheVariants.{OpenParenthesis};
-ghost use Rattle.hol_model.specs.Texts.Token.{Name, Mark};
-ghost use Rattle.hol_model_sessions.specs.ConversionGrammar.{conversional_word};
+ghost use Rattle.hol_model.specs.Texts.Token.{Name};
 ghost use Rattle.hol_model_sessions.specs.SessionTools.{in_order, either};
 ghost use Rattle.hol_tactic_exprs.specs.Expressions.{conversion_of, conversions_of};
 ghost use Rattle.hol_syntax_grammar.specs.Views.{tokens_of};
 ghost use Rattle.hol_tactic_grammar.specs.declared.conversions.Open.TheVariants.{Enclosed};
 ghost use Rattle.hol_tactic_grammar.specs.Tokens.{AreTokens, IsAt};
-ghost use Rattle.hol_tactic_grammar.specs.ConversionWords.{conversional_of, single_word};
+ghost use Rattle.hol_tactic_grammar.specs.ConversionWords.{single_word};
 ghost use Rattle.hol_tactic_grammar.specs.Conversions.{Means, ReadsUnit, ReadsConversion};
 ghost use Rattle.hol_tactic_grammar.specs.OpenConversions.{IsWanted, IsRead, IsReadChoice, Leads, Enters};
 
 use crate::conversion_words::{Single, prefix_named, single_named};
-use crate::tokens::{is_mark, is_word, name_at, read_name};
+use crate::tokens::{Read, is_mark, is_word, name_at, read_name};
 use hol_model::{EXPRESSION_NESTING_LIMIT, Symbol};
 use hol_syntax_grammar::{ReadError, Token};
 use hol_tactic_exprs::{Conv, Prefix};
@@ -40,7 +38,7 @@ enum Step {
 }
 
 // The first, or all of them by ORELSEC.
-fn either(alloc: Global, first: Conv, others: Vec<Conv>) -> Result<Conv, ReadError>
+fn either(alloc: Global, first: Conv, others: Vec<Conv>) -> Read<Conv>
     ensures { Means result (either (conversion_of first) (conversions_of others.items)) }
 {
     if others.is_empty() {
@@ -53,7 +51,7 @@ fn either(alloc: Global, first: Conv, others: Vec<Conv>) -> Result<Conv, ReadErr
 }
 
 // The first, or all of them by THENC.
-fn in_order(alloc: Global, first: Conv, others: Vec<Conv>) -> Result<Conv, ReadError>
+fn in_order(alloc: Global, first: Conv, others: Vec<Conv>) -> Read<Conv>
     ensures { Means result (in_order (conversion_of first) (conversions_of others.items)) }
 {
     if others.is_empty() {
@@ -66,12 +64,7 @@ fn in_order(alloc: Global, first: Conv, others: Vec<Conv>) -> Result<Conv, ReadE
 }
 
 // A conversion without parts.
-fn read_leaf(
-    alloc: Global,
-    tokens: &[Token<'_>],
-    at: usize,
-    single: Single,
-) -> Result<(Conv, usize), ReadError>
+fn read_leaf(alloc: Global, tokens: &[Token<'_>], at: usize, single: Single) -> Read<(Conv, usize)>
     requires tokens { AreTokens (tokens_of tokens.now) }
     requires front { IsAt (Name (single_word single)) at tokens.now }
     ensures { (room : ℕ) → ReadsUnit result at room tokens.now }
@@ -94,51 +87,15 @@ fn parted(mut parts: Vec<Conv>) -> (Conv, Vec<Conv>)
     (first, parts)
 }
 
-// Opens a place, unless as many are open as may be.
-fn enter(places: &mut Vec<Open>, place: Open, limit: usize) -> Result<(), ReadError>
-    ensures { Enters result place limit (reverse places.old.items) (reverse places.new.items) }
+// Opens a place, behind whose front a unit is wanted, unless as many are open as may be.
+fn enter(places: &mut Vec<Open>, place: Open, next: usize, limit: usize) -> Read<Step>
+    ensures { Enters result place next limit (reverse places.old.items) (reverse places.new.items) }
 {
     if places.len() >= limit {
         return Err(ReadError::Syntax);
     }
     places.push(place)?;
-    Ok(())
-}
-
-// Goes behind a conversional.
-fn begin_prefixed(
-    tokens: &[Token<'_>],
-    places: &mut Vec<Open>,
-    at: usize,
-    prefix: Prefix,
-    limit: usize,
-) -> Result<Step, ReadError>
-    requires { IsAt (Name (conversional_word (conversional_of prefix))) at tokens.now }
-    ensures { (start : ℕ) → IsWanted (reverse places.old.items) at start limit tokens.now
-        → Leads result at (length (reverse places.old.items)) (reverse places.new.items) start limit tokens.now }
-{
-    enter(places, Open::Prefixed(prefix), limit)?;
-    Ok(Step::Begin(at + 1))
-}
-
-// Goes into parentheses.
-fn begin_enclosed(
-    alloc: Global,
-    tokens: &[Token<'_>],
-    places: &mut Vec<Open>,
-    at: usize,
-    limit: usize,
-) -> Result<Step, ReadError>
-    requires { IsAt (Mark OpenParenthesis) at tokens.now }
-    ensures { (start : ℕ) → IsWanted (reverse places.old.items) at start limit tokens.now
-        → Leads result at (length (reverse places.old.items)) (reverse places.new.items) start limit tokens.now }
-{
-    let place = Open::Enclosed {
-        parts: Vec::new(alloc),
-        units: Vec::new(alloc),
-    };
-    enter(places, place, limit)?;
-    Ok(Step::Begin(at + 1))
+    Ok(Step::Begin(next))
 }
 
 // Reads a unit without parts, or goes into one with parts.
@@ -148,19 +105,23 @@ fn begin(
     places: &mut Vec<Open>,
     at: usize,
     limit: usize,
-) -> Result<Step, ReadError>
+) -> Read<Step>
     requires { AreTokens (tokens_of tokens.now) }
     ensures { (start : ℕ) → IsWanted (reverse places.old.items) at start limit tokens.now
         → Leads result at (length (reverse places.old.items)) (reverse places.new.items) start limit tokens.now }
 {
     if is_mark(tokens, at, Symbol::OpenParenthesis) {
-        return begin_enclosed(alloc, tokens, places, at, limit);
+        let place = Open::Enclosed {
+            parts: Vec::new(alloc),
+            units: Vec::new(alloc),
+        };
+        return enter(places, place, at + 1, limit);
     }
     let Some(word) = name_at(tokens, at) else {
         return Err(ReadError::Syntax);
     };
     if let Some(prefix) = prefix_named(word) {
-        return begin_prefixed(tokens, places, at, prefix, limit);
+        return enter(places, Open::Prefixed(prefix), at + 1, limit);
     }
     let Some(single) = single_named(word) else {
         return Err(ReadError::Syntax);
@@ -177,7 +138,7 @@ fn behind_choice(
     mut parts: Vec<Conv>,
     choice: Conv,
     next: usize,
-) -> Result<Step, ReadError>
+) -> Read<Step>
     requires { AreTokens (tokens_of tokens.now) }
     ensures { (start limit : ℕ) → IsReadChoice parts.items (reverse places.old.items) choice next start limit tokens.now
         → Leads result next (length (reverse places.old.items) + 1) (reverse places.new.items) start limit tokens.now }
@@ -207,7 +168,7 @@ fn behind_unit(
     mut units: Vec<Conv>,
     unit: Conv,
     next: usize,
-) -> Result<Step, ReadError>
+) -> Read<Step>
     requires { AreTokens (tokens_of tokens.now) }
     ensures { (start limit : ℕ) → IsRead (Enclosed parts units ∷ reverse places.old.items) unit next start limit tokens.now
         → Leads result next (length (reverse places.old.items) + 1) (reverse places.new.items) start limit tokens.now }
@@ -229,7 +190,7 @@ fn close(
     places: &mut Vec<Open>,
     unit: Conv,
     next: usize,
-) -> Result<Step, ReadError>
+) -> Read<Step>
     requires { AreTokens (tokens_of tokens.now) }
     ensures { (start limit : ℕ) → IsRead (reverse places.old.items) unit next start limit tokens.now
         → Leads result next (length (reverse places.old.items)) (reverse places.new.items) start limit tokens.now }
@@ -247,12 +208,7 @@ fn close(
 }
 
 /// What a conversional may stand before, at a place. At most as many parentheses and prefixes as there is room for nest in it.
-pub fn read_unit(
-    alloc: Global,
-    tokens: &[Token<'_>],
-    at: usize,
-    room: usize,
-) -> Result<(Conv, usize), ReadError>
+pub fn read_unit(alloc: Global, tokens: &[Token<'_>], at: usize, room: usize) -> Read<(Conv, usize)>
     requires { AreTokens (tokens_of tokens.now) }
     ensures { ReadsUnit result at room tokens.now }
 {

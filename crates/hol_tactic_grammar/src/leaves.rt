@@ -7,20 +7,20 @@ ghost use Rattle.hol_syntax_grammar.specs.Steps.{flat_steps_of};
 ghost use Rattle.hol_syntax_grammar.specs.Views.{tokens_of};
 ghost use Rattle.hol_tactic_grammar.specs.Tokens.{AreTokens, IsAt};
 ghost use Rattle.hol_tactic_grammar.specs.TacticWords.{plain_of, named_of, quoted_of, other_word};
-ghost use Rattle.hol_tactic_grammar.specs.declared.tactic_words.Other.TheVariants.{Conv, Rewrite};
 ghost use Rattle.hol_tactic_grammar.specs.Expressions.{simple, plain, by_name, by_quote, expression_here};
 ghost use Rattle.hol_tactic_grammar.specs.Tactics.{ReadsNames, ReadsUnit};
 
 use crate::conversions::read_unit;
 use crate::quotes::read_quote;
-use crate::tactic_words::{Named, Plain, Quoted};
-use crate::tokens::{is_mark, read_name};
+use crate::tactic_words::{Named, Other, Plain, Quoted};
+use crate::tactics::Refiner;
+use crate::tokens::{Read, is_mark, read_name};
 use hol_model::Symbol;
 use hol_syntax_grammar::{ReadError, TermStep, Token};
 use hol_tactic_exprs::{Leaf, Tac};
 use std::alloc::Global;
 
-fn plain_tactic<'a>(tactic: Plain) -> Tac<Vec<TermStep<'a>>>
+fn plain_tactic<'a>(tactic: Plain) -> Refiner<'a>
     ensures { expression_here result ≡ simple (plain (plain_of tactic)) }
 {
     match tactic {
@@ -38,7 +38,7 @@ fn plain_tactic<'a>(tactic: Plain) -> Tac<Vec<TermStep<'a>>>
     }
 }
 
-fn named_tactic<'a>(tactic: Named, name: String) -> Tac<Vec<TermStep<'a>>>
+fn named_tactic<'a>(tactic: Named, name: String) -> Refiner<'a>
     ensures { expression_here result ≡ simple (by_name (named_of tactic) (string_bytes name)) }
 {
     match tactic {
@@ -51,7 +51,7 @@ fn named_tactic<'a>(tactic: Named, name: String) -> Tac<Vec<TermStep<'a>>>
     }
 }
 
-fn quoted_tactic<'a>(tactic: Quoted, steps: Vec<TermStep<'a>>) -> Tac<Vec<TermStep<'a>>>
+fn quoted_tactic<'a>(tactic: Quoted, steps: Vec<TermStep<'a>>) -> Refiner<'a>
     ensures { expression_here result ≡ simple (by_quote (quoted_of tactic) (flat_steps_of steps.entry.items)) }
 {
     match tactic {
@@ -61,11 +61,7 @@ fn quoted_tactic<'a>(tactic: Quoted, steps: Vec<TermStep<'a>>) -> Tac<Vec<TermSt
 }
 
 /// A refiner without arguments.
-pub fn read_plain<'a>(
-    tokens: &[Token<'a>],
-    at: usize,
-    tactic: Plain,
-) -> Result<(Tac<Vec<TermStep<'a>>>, usize), ReadError>
+pub fn read_plain<'a>(tokens: &[Token<'a>], at: usize, tactic: Plain) -> Read<(Refiner<'a>, usize)>
     requires { IsAt (Name (plain_word (plain_of tactic))) at tokens.now }
     ensures { (room : ℕ) → ReadsUnit result at room tokens.now }
 {
@@ -78,7 +74,7 @@ pub fn read_by_name<'a>(
     tokens: &[Token<'a>],
     at: usize,
     tactic: Named,
-) -> Result<(Tac<Vec<TermStep<'a>>>, usize), ReadError>
+) -> Read<(Refiner<'a>, usize)>
     requires tokens { AreTokens (tokens_of tokens.now) }
     requires front { IsAt (Name (named_word (named_of tactic))) at tokens.now }
     ensures { (room : ℕ) → ReadsUnit result at room tokens.now }
@@ -93,7 +89,7 @@ pub fn read_by_quote<'a>(
     tokens: &[Token<'a>],
     at: usize,
     tactic: Quoted,
-) -> Result<(Tac<Vec<TermStep<'a>>>, usize), ReadError>
+) -> Read<(Refiner<'a>, usize)>
     requires { IsAt (Name (quoted_word (quoted_of tactic))) at tokens.now }
     ensures { (room : ℕ) → ReadsUnit result at room tokens.now }
 {
@@ -101,27 +97,8 @@ pub fn read_by_quote<'a>(
     Ok((quoted_tactic(tactic, steps), next))
 }
 
-/// CONV_TAC and the conversion behind it.
-pub fn read_conv_tac<'a>(
-    alloc: Global,
-    tokens: &[Token<'a>],
-    at: usize,
-    room: usize,
-) -> Result<(Tac<Vec<TermStep<'a>>>, usize), ReadError>
-    requires tokens { AreTokens (tokens_of tokens.now) }
-    requires front { IsAt (Name (other_word Conv)) at tokens.now }
-    ensures { ReadsUnit result at room tokens.now }
-{
-    let (conv, next) = read_unit(alloc, tokens, at + 1, room)?;
-    Ok((Tac::Leaf(Leaf::Conv(conv)), next))
-}
-
 // The names of a list in brackets, and the place behind it.
-fn read_names(
-    alloc: Global,
-    tokens: &[Token<'_>],
-    at: usize,
-) -> Result<(Vec<String>, usize), ReadError>
+fn read_names(alloc: Global, tokens: &[Token<'_>], at: usize) -> Read<(Vec<String>, usize)>
     requires { AreTokens (tokens_of tokens.now) }
     ensures { ReadsNames result at tokens.now }
 {
@@ -146,20 +123,29 @@ fn read_names(
     Ok((names, next + 1))
 }
 
-/// REWRITE_TAC and the names behind it.
-pub fn read_rewrite_tac<'a>(
+/// CONV_TAC and the conversion behind it, or REWRITE_TAC and the names behind it.
+pub fn read_other<'a>(
     alloc: Global,
     tokens: &[Token<'a>],
     at: usize,
+    other: Other,
     room: usize,
-) -> Result<(Tac<Vec<TermStep<'a>>>, usize), ReadError>
+) -> Read<(Refiner<'a>, usize)>
     requires tokens { AreTokens (tokens_of tokens.now) }
-    requires front { IsAt (Name (other_word Rewrite)) at tokens.now }
+    requires front { IsAt (Name (other_word other)) at tokens.now }
     ensures { ReadsUnit result at room tokens.now }
 {
-    if room == 0 {
-        return Err(ReadError::Syntax);
+    match other {
+        Other::Conv => {
+            let (conv, next) = read_unit(alloc, tokens, at + 1, room)?;
+            Ok((Tac::Leaf(Leaf::Conv(conv)), next))
+        }
+        Other::Rewrite => {
+            if room == 0 {
+                return Err(ReadError::Syntax);
+            }
+            let (names, next) = read_names(alloc, tokens, at + 1)?;
+            Ok((Tac::Leaf(Leaf::Rewrite(names)), next))
+        }
     }
-    let (names, next) = read_names(alloc, tokens, at + 1)?;
-    Ok((Tac::Leaf(Leaf::Rewrite(names)), next))
 }

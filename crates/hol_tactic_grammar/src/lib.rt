@@ -9,6 +9,8 @@ mod tactic_reader;
 mod tactic_words;
 mod tactics;
 mod tokens;
+mod words;
 
 pub use conversions::conversion_of;
 pub use tactic_reader::tactic_of;
+pub use words::meaning_in;

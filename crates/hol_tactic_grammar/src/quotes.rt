@@ -3,7 +3,7 @@ ghost use Rattle.hol_model.specs.declared.symbol.Symbol.TheVariants.{Backquote};
 ghost use Rattle.hol_model.specs.Texts.Token.{Mark};
 ghost use Rattle.hol_tactic_grammar.specs.Quotes.{FindsQuote, ReadsQuote};
 
-use crate::tokens::is_mark;
+use crate::tokens::{Read, is_mark};
 use hol_model::Symbol;
 use hol_syntax_grammar::{ReadError, TermStep, Token, parse_term};
 use std::alloc::Global;
@@ -27,7 +27,7 @@ pub fn read_quote<'a>(
     alloc: Global,
     tokens: &[Token<'a>],
     at: usize,
-) -> Result<(Vec<TermStep<'a>>, usize), ReadError>
+) -> Read<(Vec<TermStep<'a>>, usize)>
     ensures { ReadsQuote result at tokens.now }
 {
     if !is_mark(tokens, at, Symbol::Backquote) {

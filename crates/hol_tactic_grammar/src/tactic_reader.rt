@@ -8,18 +8,14 @@ ghost use Rattle.hol_tactic_grammar.specs.Expressions.{expression_here};
 ghost use Rattle.hol_tactic_grammar.specs.Tactics.{ReadsTactic};
 ghost use Rattle.hol_tactic_grammar.specs.OpenTactics.{WantsChoice, WantsChain, HasUnit, HasChoiceWhole, HasWhole, opens_of, IsReading, turns_left, Goes, Waits, Nests, Closes, IsListFrontAt, Adds, AddsElement, IsChainWith, unit_read, unit_made};
 
-use crate::leaves::{read_by_name, read_by_quote, read_conv_tac, read_plain, read_rewrite_tac};
-use crate::tactic_words::{Other, Start, start_named};
-use crate::tactics::{Prefix, or_else, prefixed, then_on};
-use crate::tokens::{is_mark, is_word, name_at};
+use crate::leaves::{read_by_name, read_by_quote, read_other, read_plain};
+use crate::tactic_words::{Start, start_named};
+use crate::tactics::{Joint, Prefix, Refiner, or_else, prefixed, then_on};
+use crate::tokens::{Read, is_mark, is_word, name_at};
 use hol_model::{EXPRESSION_NESTING_LIMIT, Symbol};
-use hol_syntax_grammar::{ReadError, TermStep, Token};
-use hol_tactic_exprs::{Link, Tac};
+use hol_syntax_grammar::{ReadError, Token};
+use hol_tactic_exprs::Link;
 use std::alloc::Global;
-
-type Refiner<'a> = Tac<Vec<TermStep<'a>>>;
-
-type Joint<'a> = Link<Vec<TermStep<'a>>>;
 
 // An open place: what waits for what stands behind it.
 #[derive(Drop)]
@@ -71,7 +67,7 @@ struct Reader<'a> {
 
 impl<'a> Reader<'a> {
     // One more place is open.
-    fn wait(&mut self, place: Open<'a>, next: usize) -> Result<Reading<'a>, ReadError>
+    fn wait(&mut self, place: Open<'a>, next: usize) -> Read<Reading<'a>>
         ensures { Waits result self.old self.new place.entry next }
     {
         self.opens.push(place)?;
@@ -79,7 +75,7 @@ impl<'a> Reader<'a> {
     }
 
     // One more place that nests is open.
-    fn nest(&mut self, place: Open<'a>, next: usize) -> Result<Reading<'a>, ReadError>
+    fn nest(&mut self, place: Open<'a>, next: usize) -> Read<Reading<'a>>
         ensures { Nests result self.old self.new place.entry next }
     {
         if self.room == 0 {
@@ -99,12 +95,7 @@ impl<'a> Reader<'a> {
     }
 
     // A unit is wanted: what begins it is opened, or it is read.
-    fn begin(
-        &mut self,
-        alloc: Global,
-        tokens: &[Token<'a>],
-        at: usize,
-    ) -> Result<Reading<'a>, ReadError>
+    fn begin(&mut self, alloc: Global, tokens: &[Token<'a>], at: usize) -> Read<Reading<'a>>
         requires tokens { AreTokens (tokens_of tokens.now) }
         requires reading { IsReading (Reading.Wanted at) self.old tokens.now }
         ensures { Goes result self.new tokens.now (turns_left (Reading.Wanted at) self.old tokens.now) }
@@ -119,17 +110,11 @@ impl<'a> Reader<'a> {
             return Err(ReadError::Syntax);
         };
         match start {
-            Start::OfOther(Other::Repeat) => self.nest(Open::Prefixed(Prefix::Repeat), at + 1),
-            Start::OfOther(Other::Try) => self.nest(Open::Prefixed(Prefix::Try), at + 1),
+            Start::OfPrefix(prefix) => self.nest(Open::Prefixed(prefix), at + 1),
             Start::OfPlain(tactic) => read_up_to(read_plain(tokens, at, tactic)),
             Start::OfNamed(tactic) => read_up_to(read_by_name(alloc, tokens, at, tactic)),
             Start::OfQuoted(tactic) => read_up_to(read_by_quote(alloc, tokens, at, tactic)),
-            Start::OfOther(Other::Conv) => {
-                read_up_to(read_conv_tac(alloc, tokens, at, self.room))
-            }
-            Start::OfOther(Other::Rewrite) => {
-                read_up_to(read_rewrite_tac(alloc, tokens, at, self.room))
-            }
+            Start::OfOther(other) => { read_up_to(read_other(alloc, tokens, at, other, self.room)) }
         }
     }
 
@@ -144,12 +129,7 @@ impl<'a> Reader<'a> {
     }
 
     // A unit is read: what waits for it takes it, or a chain of ORELSE begins.
-    fn take_unit(
-        &mut self,
-        alloc: Global,
-        unit: Refiner<'a>,
-        next: usize,
-    ) -> Result<Reading<'a>, ReadError>
+    fn take_unit(&mut self, alloc: Global, unit: Refiner<'a>, next: usize) -> Read<Reading<'a>>
         requires { self.old.room ≤ EXPRESSION_NESTING_LIMIT }
         ensures { (tokens : List Token) → IsReading (Reading.Unit unit.entry next) self.old tokens
             → Goes result self.new tokens (turns_left (Reading.Unit unit.entry next) self.old tokens) }
@@ -177,7 +157,7 @@ impl<'a> Reader<'a> {
         first: Refiner<'a>,
         others: Vec<Refiner<'a>>,
         next: usize,
-    ) -> Result<Reading<'a>, ReadError>
+    ) -> Read<Reading<'a>>
         requires tokens { AreTokens (tokens_of tokens.now) }
         requires reading { IsReading (Reading.Choice first others next) self.old tokens.now }
         ensures { Goes result self.new tokens.now (turns_left (Reading.Choice first.entry others.entry next) self.old tokens.now) }
@@ -200,12 +180,7 @@ impl<'a> Reader<'a> {
     }
 
     // A chain of ORELSE has ended: a chain of THEN and THENL takes it, or begins.
-    fn end_choice(
-        &mut self,
-        alloc: Global,
-        choice: Refiner<'a>,
-        next: usize,
-    ) -> Result<Reading<'a>, ReadError>
+    fn end_choice(&mut self, alloc: Global, choice: Refiner<'a>, next: usize) -> Read<Reading<'a>>
         requires { WantsChoice (opens_of self.old) }
         ensures { (tokens : List Token) → HasChoiceWhole (opens_of self.old) self.old.room (tokens_of tokens) (behind next tokens) (expression_here choice.entry)
             → Goes result self.new tokens (8 * (length tokens - next) + 4 * vec_len self.old.opens + 3) }
@@ -227,7 +202,7 @@ impl<'a> Reader<'a> {
         first: Refiner<'a>,
         links: Vec<Joint<'a>>,
         next: usize,
-    ) -> Result<Reading<'a>, ReadError>
+    ) -> Read<Reading<'a>>
         requires tokens { AreTokens (tokens_of tokens.now) }
         requires reading { IsReading (Reading.Chain first links next) self.old tokens.now }
         ensures { Goes result self.new tokens.now (turns_left (Reading.Chain first.entry links.entry next) self.old tokens.now) }
@@ -264,7 +239,7 @@ impl<'a> Reader<'a> {
         first: Refiner<'a>,
         links: Vec<Joint<'a>>,
         at: usize,
-    ) -> Result<Reading<'a>, ReadError>
+    ) -> Read<Reading<'a>>
         requires reading { IsReading (Reading.Chain first links at) self.old tokens.now }
         requires front { IsAt (Name (codes "THENL")) at tokens.now }
         ensures { Goes result self.new tokens.now (turns_left (Reading.Chain first.entry links.entry at) self.old tokens.now) }
@@ -288,7 +263,7 @@ impl<'a> Reader<'a> {
         tokens: &[Token<'a>],
         tactic: Refiner<'a>,
         next: usize,
-    ) -> Result<Reading<'a>, ReadError>
+    ) -> Read<Reading<'a>>
         requires { HasWhole (opens_of self.old) self.old.room (tokens_of tokens.now) (behind next tokens.now) (expression_here tactic) }
         ensures { Goes result self.new tokens.now (8 * (length tokens.now - next) + 4 * vec_len self.old.opens + 2) }
     {
@@ -314,7 +289,7 @@ impl<'a> Reader<'a> {
         tokens: &[Token<'a>],
         tactic: Refiner<'a>,
         next: usize,
-    ) -> Result<Reading<'a>, ReadError>
+    ) -> Read<Reading<'a>>
         requires { HasWhole (Open.Enclosed ∷ opens_of self.old) self.old.room (tokens_of tokens.now) (behind next tokens.now) (expression_here tactic) }
         ensures { Goes result self.new tokens.now (8 * (length tokens.now - next) + 4 * vec_len self.old.opens + 2) }
     {
@@ -335,7 +310,7 @@ impl<'a> Reader<'a> {
         mut each: Vec<Refiner<'a>>,
         tactic: Refiner<'a>,
         next: usize,
-    ) -> Result<Reading<'a>, ReadError>
+    ) -> Read<Reading<'a>>
         requires { HasWhole (Open.Listed first links each ∷ opens_of self.old) self.old.room (tokens_of tokens.now) (behind next tokens.now) (expression_here tactic) }
         ensures { Goes result self.new tokens.now (8 * (length tokens.now - next) + 4 * vec_len self.old.opens + 2) }
     {
@@ -359,7 +334,7 @@ fn add_element<'a>(
     each: &mut Vec<Refiner<'a>>,
     tactic: Refiner<'a>,
     next: usize,
-) -> Result<bool, ReadError>
+) -> Read<bool>
     ensures { AddsElement result tactic.entry each.old.items each.new.items next tokens.now }
 {
     each.push(tactic)?;
@@ -373,7 +348,7 @@ fn add_element<'a>(
 }
 
 // One more at the end.
-fn add<T: Drop>(items: &mut Vec<T>, item: T) -> Result<(), ReadError>
+fn add<T: Drop>(items: &mut Vec<T>, item: T) -> Read<()>
     ensures { Adds result item items.old.items items.new.items }
 {
     items.push(item)?;
@@ -386,7 +361,7 @@ fn choice_with<'a>(
     mut others: Vec<Refiner<'a>>,
     unit: Refiner<'a>,
     next: usize,
-) -> Result<Reading<'a>, ReadError>
+) -> Read<Reading<'a>>
     ensures { (reader : Reader) (tokens : List Token)
         → HasUnit (Open.Choice first.entry others.entry ∷ opens_of reader) reader.room (tokens_of tokens) (behind next tokens) (expression_here unit.entry)
         → Goes result reader tokens (8 * (length tokens - next) + 4 * vec_len reader.opens + 8) }
@@ -406,7 +381,7 @@ fn chain_with<'a>(
     mut links: Vec<Joint<'a>>,
     link: Joint<'a>,
     next: usize,
-) -> Result<Reading<'a>, ReadError>
+) -> Read<Reading<'a>>
     ensures { (reader : Reader) (tokens : List Token) → IsChainWith first.entry links.entry link.entry next reader tokens
         → Goes result reader tokens (8 * (length tokens - next) + 4 * vec_len reader.opens + 7) }
 {
@@ -420,17 +395,14 @@ fn chain_with<'a>(
 }
 
 // A unit that is made.
-fn unit_made<'a>(
-    made: Result<Refiner<'a>, ReadError>,
-    next: usize,
-) -> Result<Reading<'a>, ReadError>
+fn unit_made<'a>(made: Read<Refiner<'a>>, next: usize) -> Read<Reading<'a>>
     ensures { result ≡ unit_made made.entry next }
 {
     Ok(Reading::Unit(made?, next))
 }
 
 // A unit that is read.
-fn read_up_to<'a>(read: Result<(Refiner<'a>, usize), ReadError>) -> Result<Reading<'a>, ReadError>
+fn read_up_to<'a>(read: Read<(Refiner<'a>, usize)>) -> Read<Reading<'a>>
     ensures { result ≡ unit_read read.entry }
 {
     let (unit, next) = read?;
@@ -439,10 +411,7 @@ fn read_up_to<'a>(read: Result<(Refiner<'a>, usize), ReadError>) -> Result<Readi
 
 /// The refiner expression that the tokens are (HOL Light's tactics.ml), its quoted terms by their steps. Refused: Syntax where they
 /// are none within the limit of nesting, Memory.
-pub fn tactic_of<'a>(
-    alloc: Global,
-    tokens: &[Token<'a>],
-) -> Result<Tac<Vec<TermStep<'a>>>, ReadError>
+pub fn tactic_of<'a>(alloc: Global, tokens: &[Token<'a>]) -> Result<Refiner<'a>, ReadError>
     requires { AreTokens (tokens_of tokens.now) }
     ensures { ReadsTactic result tokens.now }
 {

@@ -9,6 +9,9 @@ use hol_syntax::identifier;
 use hol_syntax_grammar::{ReadError, Token};
 use std::alloc::Global;
 
+/// What a reader answers.
+pub type Read<T> = Result<T, ReadError>;
+
 /// The name at a place.
 pub fn name_at<'a>(tokens: &[Token<'a>], at: usize) -> Option<&'a str>
     requires { AreTokens (tokens_of tokens.now) }
@@ -24,7 +27,7 @@ pub fn name_at<'a>(tokens: &[Token<'a>], at: usize) -> Option<&'a str>
 }
 
 /// The name at a place, as text of its own.
-pub fn read_name(alloc: Global, tokens: &[Token<'_>], at: usize) -> Result<String, ReadError>
+pub fn read_name(alloc: Global, tokens: &[Token<'_>], at: usize) -> Read<String>
     requires { AreTokens (tokens_of tokens.now) }
     ensures { ReadsName result at tokens.now }
 {

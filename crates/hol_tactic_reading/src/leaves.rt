@@ -1,26 +1,13 @@
 // Refiners without parts, their quoted terms read.
-ghost use Rattle.std.specs.Prelude.{◌≡◌, map, IfOk, IfErr, string_bytes};
-ghost use Rattle.hol_model.specs.declared.fault.Fault.TheVariants.{Memory};
 ghost use Rattle.hol_syntax.specs.Scope.{scope_of};
 ghost use Rattle.hol_tactic_reading.specs.Reading.{ReadsLeaf};
 
 use hol_model::Fault;
 use hol_syntax::{Scope, term_of_steps};
 use hol_syntax_grammar::TermStep;
-use hol_tactic_exprs::Leaf;
+use hol_tactic_exprs::{Leaf, name_copies};
 use hol_terms::Term;
 use std::alloc::Global;
-
-fn name_copies(alloc: Global, names: &[String]) -> Result<Vec<String>, Fault>
-    ensures ok { IfOk result (λ made. map string_bytes made.items ≡ map string_bytes names.now) }
-    ensures err { IfErr result (λ fault. fault ≡ Memory) }
-{
-    let mut copies = Vec::new(alloc);
-    for name in names {
-        copies.push(name.clone()?)?;
-    }
-    Ok(copies)
-}
 
 /// The refiner with its quoted term read, over the names that are known; refused as that term is.
 pub fn read_leaf(

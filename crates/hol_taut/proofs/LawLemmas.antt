@@ -23,7 +23,7 @@ use Rattle.hol_bool.proofs.RoomLemmas.{fits-within}
 use Rattle.hol_bool.proofs.PreludeSteps.{equation-fits, p_q-passes}
 use Rattle.hol_taut_laws.specs.HasLaws.{HasLaws}
 use Rattle.hol_taut_laws.specs.LawTheorems.{law_theorem}
-use Rattle.hol_taut_laws.specs.declared.law.Law.{Law}
+use Rattle.hol_taut_formulas.specs.declared.law.Law.{Law}
 use Rattle.hol_taut_laws.specs.declared.stored.Laws.{Laws}
 use Rattle.hol_taut_laws.proofs.LawLemmas.{laws-stay}
 use Rattle.hol_taut.specs.LawSteps.{LeadsTo}

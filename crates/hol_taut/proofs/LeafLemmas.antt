@@ -19,7 +19,7 @@ use Rattle.hol_equal.specs.Sequents.{Shows, DerivesIf}
 use Rattle.hol_prelude.specs.Prelude.{shown}
 use Rattle.hol_taut_laws.specs.HasLaws.{HasLaws}
 use Rattle.hol_taut_laws.specs.LawTheorems.{law_theorem}
-use Rattle.hol_taut_laws.specs.declared.law.Law.TheVariants.{Truth}
+use Rattle.hol_taut_formulas.specs.declared.law.Law.TheVariants.{Truth}
 use Rattle.hol_taut_laws.proofs.LawLemmas.{stands-on-logic}
 use Rattle.hol_taut_laws.specs.declared.stored.Laws.{Laws}
 use Rattle.hol_model.specs.Propositional.Connectives.{equation_of}

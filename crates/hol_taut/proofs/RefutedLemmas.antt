@@ -17,7 +17,7 @@ use Rattle.hol_equal.specs.Sequents.{Gives, IsPast}
 use Rattle.hol_prelude.specs.Prelude.{p}
 use Rattle.hol_taut.proofs.LawLemmas.{leads-p_q}
 use Rattle.hol_taut.specs.LawSteps.{LeadsTo}
-use Rattle.hol_taut_laws.specs.declared.law.Law.TheVariants.{Contr}
+use Rattle.hol_taut_formulas.specs.declared.law.Law.TheVariants.{Contr}
 use Rattle.hol_taut.specs.declared.facts.Facts.{Facts, Nothing, Fact'}
 use Rattle.hol_model.specs.Propositional.Connectives.{fact}
 use Rattle.hol_taut.specs.FactLists.{value_of, known_by, AreProved}

@@ -17,7 +17,7 @@ use Rattle.hol_journal.specs.Growth.{Continues, IsHeld}
 use Rattle.hol_prelude.specs.Prelude.{p}
 use Rattle.hol_taut.proofs.LawLemmas.{leads-p_q}
 use Rattle.hol_taut.specs.LawSteps.{LeadsTo}
-use Rattle.hol_taut_laws.specs.declared.law.Law.TheVariants.{NotFalse, NotTrue}
+use Rattle.hol_taut_formulas.specs.declared.law.Law.TheVariants.{NotFalse, NotTrue}
 use Rattle.hol_model.specs.Propositional.Propositions.{Connective}
 use Rattle.hol_model.specs.Propositional.Propositions.{And, Or, Implies, Iff}
 use Rattle.hol_taut.specs.declared.facts.Facts.{Facts, Nothing, Fact'}
@@ -29,7 +29,7 @@ use Rattle.hol_taut.specs.Proved.{Proves, ProvesIf}
 use Rattle.hol_taut.specs.Ways.{connected_image, IsSmallIf, IsWay}
 use Rattle.hol_taut.specs.Shown.{first_side, first_value, law_of, LeadsBy, LeadsOn, takes_second, second_side, second_value, IsChain, IsOfBoth, Joins, IsJoined}
 use Rattle.hol_taut.proofs.WayLemmas.{small-left, small-right, fact-fits}
-use Rattle.hol_taut_laws.specs.declared.law.Law.{Law}
+use Rattle.hol_taut_formulas.specs.declared.law.Law.{Law}
 
 -- ---- steps
 

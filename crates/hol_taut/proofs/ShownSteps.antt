@@ -20,7 +20,7 @@ use Rattle.hol_taut.specs.FactLists.{value_of, known_by, IsOfFact}
 use Rattle.hol_model.specs.Propositional.Propositions.{negated, connected, proposition}
 use Rattle.hol_taut.specs.Proved.{Proves, ProvesIf}
 use Rattle.hol_taut.specs.Ways.{connected_image, IsSmallIf, IsWay, the_way}
-use Rattle.hol_taut_laws.specs.declared.law.Law.{Law}
+use Rattle.hol_taut_formulas.specs.declared.law.Law.{Law}
 use Rattle.hol_taut.specs.Shown.{first_side, first_value, law_of, LeadsBy, takes_second, second_side, second_value, Joins}
 use Rattle.hol_taut.proofs.FormLemmas.{AreFormulas, sides-formulas, part-formula}
 use Rattle.hol_model.specs.Propositional.Connectives.{connective_name}

@@ -13,7 +13,7 @@ use Rattle.hol_equal.specs.Room.{FitsIf}
 use Rattle.hol_prelude.specs.Prelude.{p}
 use Rattle.hol_taut.proofs.LawLemmas.{leads-p_q}
 use Rattle.hol_taut.specs.LawSteps.{LeadsTo}
-use Rattle.hol_taut_laws.specs.declared.law.Law.TheVariants.{NotFalseElim}
+use Rattle.hol_taut_formulas.specs.declared.law.Law.TheVariants.{NotFalseElim}
 use Rattle.hol_model.specs.Propositional.Connectives.{fact}
 use Rattle.hol_taut.specs.Ways.{IsSmallIf}
 use Rattle.hol_taut.proofs.WayLemmas.{fact-fits, facts-fit, falsity-small}

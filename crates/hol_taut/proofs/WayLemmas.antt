@@ -14,7 +14,7 @@ use Rattle.hol_equal.proofs.Sizes.{sized-more, sized-equation}
 use Rattle.hol_equal.specs.Room.{IsSized, FitsIf}
 use Rattle.hol_prelude.specs.Prelude.{p, q}
 use Rattle.hol_taut.proofs.LawLemmas.{leads-p_q}
-use Rattle.hol_taut_laws.specs.declared.law.Law.TheVariants.{AndFalseLeft, AndFalseRight, Conj, Disj1, Disj2, IffFalseLeft, IffTrueLeft, IffTrueRight, ImpFalseLeft, ImpTrueRight, Mp, OrFalseLeft}
+use Rattle.hol_taut_formulas.specs.declared.law.Law.TheVariants.{AndFalseLeft, AndFalseRight, Conj, Disj1, Disj2, IffFalseLeft, IffTrueLeft, IffTrueRight, ImpFalseLeft, ImpTrueRight, Mp, OrFalseLeft}
 use Rattle.hol_model.specs.Propositional.Propositions.{Connective}
 use Rattle.hol_model.specs.Propositional.Propositions.{And, Or, Implies, Iff}
 use Rattle.hol_taut.specs.FactLists.{known_table}

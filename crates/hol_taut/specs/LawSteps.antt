@@ -10,7 +10,7 @@ use Rattle.hol_prelude.specs.Prelude.{shown}
 use Rattle.hol_equal.specs.Sequents.{instance_of}
 use Rattle.hol_equal.specs.Room.{Room, FitsIf}
 use Rattle.hol_taut_laws.specs.LawTheorems.{law_theorem}
-use Rattle.hol_taut_laws.specs.declared.law.Law.{Law}
+use Rattle.hol_taut_formulas.specs.declared.law.Law.{Law}
 
 -- at these terms, the law leads from one term to the other, and where there is room both fit
 pub record LeadsTo (theory : Theory) (law : Law) (terms : List (NamedTerm × NamedTerm)) (room : Room) (premise conclusion : Nameless) : Type 0 where

@@ -7,7 +7,7 @@ use Rattle.hol_model.specs.Logic.Theory.{Theory}
 use Rattle.hol_journal.specs.Journal.{Recorded}
 use Rattle.hol_bool.specs.PreludeInstances.{at_p_q}
 use Rattle.hol_equal.specs.Room.{Room, FitsIf}
-use Rattle.hol_taut_laws.specs.declared.law.Law.{Law}
+use Rattle.hol_taut_formulas.specs.declared.law.Law.{Law}
 use Rattle.hol_taut.specs.LawSteps.{LeadsTo}
 use Rattle.hol_model.specs.Propositional.Connectives.{equation_of, fact}
 use Rattle.hol_taut.specs.FactLists.{AreProved}

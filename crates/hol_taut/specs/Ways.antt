@@ -11,9 +11,9 @@ use Rattle.hol_bool.specs.PreludeInstances.{at_p_q}
 use Rattle.hol_equal.specs.Formulas.{IsFormula}
 use Rattle.hol_equal.specs.Room.{Room, IsSized}
 use Rattle.hol_model.specs.Rewrites.SmallTerms.{SMALL_HEIGHT, SMALL_NODES}
-use Rattle.hol_taut_laws.specs.declared.law.Law.{Law}
+use Rattle.hol_taut_formulas.specs.declared.law.Law.{Law}
 use Rattle.hol_taut.specs.LawSteps.{LeadsTo}
-use Rattle.hol_taut_laws.specs.declared.law.Law.TheVariants.{AndFalseLeft, AndFalseRight, Conj, Disj1, Disj2, IffFalseLeft, IffTrueLeft, IffTrueRight, ImpFalseLeft, ImpTrueRight, Mp, OrFalseLeft}
+use Rattle.hol_taut_formulas.specs.declared.law.Law.TheVariants.{AndFalseLeft, AndFalseRight, Conj, Disj1, Disj2, IffFalseLeft, IffTrueLeft, IffTrueRight, ImpFalseLeft, ImpTrueRight, Mp, OrFalseLeft}
 use Rattle.hol_model.specs.Propositional.Propositions.{Connective}
 use Rattle.hol_model.specs.Propositional.Propositions.{And, Or, Implies, Iff}
 use Rattle.hol_model.specs.Propositional.Connectives.{connected_term, equation_of, fact}

@@ -14,32 +14,9 @@ use hol_journal::{Rec, Recorder};
 use hol_model::Fault;
 use hol_taut_chains::{instance, reflexive};
 use hol_taut_laws::{Law, Laws, law_theorem};
-use hol_taut_plans as plans;
 use hol_taut_plans::{Formula, Plan, Rule, Step, planned};
 use hol_terms::Term;
 use std::alloc::Global;
-
-// The law of a step.
-fn law_of(law: plans::Law) -> Law {
-    match law {
-        plans::Law::Contr => Law::Contr,
-        plans::Law::Conj => Law::Conj,
-        plans::Law::Mp => Law::Mp,
-        plans::Law::Disj1 => Law::Disj1,
-        plans::Law::Disj2 => Law::Disj2,
-        plans::Law::AndFalseLeft => Law::AndFalseLeft,
-        plans::Law::AndFalseRight => Law::AndFalseRight,
-        plans::Law::ImpFalseLeft => Law::ImpFalseLeft,
-        plans::Law::ImpTrueRight => Law::ImpTrueRight,
-        plans::Law::NotTrue => Law::NotTrue,
-        plans::Law::NotFalse => Law::NotFalse,
-        plans::Law::IffTrueLeft => Law::IffTrueLeft,
-        plans::Law::IffTrueRight => Law::IffTrueRight,
-        plans::Law::IffFalseLeft => Law::IffFalseLeft,
-        plans::Law::OrFalseLeft => Law::OrFalseLeft,
-        plans::Law::NotFalseElim => Law::NotFalseElim,
-    }
-}
 
 // A part of the formula.
 fn part_of(plan: &Plan, number: usize) -> Result<&Term, Fault> {
@@ -156,7 +133,7 @@ fn taken(
         Step::Assume(formula) => assume_of(recorder, plan, formula),
         Step::Inst(law, p, q) => {
             let formulas = formulas_for(alloc, plan, p, q);
-            law_at(recorder, laws, law_of(law), formulas)
+            law_at(recorder, laws, law, formulas)
         }
         Step::Rule(rule, first, second) => by_rule(recorder, made, rule, first, second),
     }

@@ -15,22 +15,6 @@ use hol_terms::Term;
 // How many parts are put in their order, or taken out by pairs.
 const MOST_PARTS: usize = 128;
 
-// `chain <=> part <=> rest`, for the part that stands first in the whole.
-fn first_pulled(
-    recorder: &mut Recorder,
-    laws: &ChainLaws,
-    whole: &Term,
-    chain: &Term,
-) -> Result<Rec, Fault>
-    requires laws { HasChainLaws recorder.old laws.now }
-    ensures continues { Continues recorder.old recorder.new result }
-{
-    match first_part(whole, chain) {
-        Some(part) => pulled(recorder, laws, part, chain),
-        None => Err(Fault::BadShape),
-    }
-}
-
 // From `chain <=> part <=> rest` and `rest <=> sorted`, `chain <=> part <=> sorted`.
 #[tactic(auto, using(hol_equal::proofs::StepLemmas::still_made, hol_equal::proofs::StepLemmas::now_made, crate::proofs::ChainLemmas::continued_twice))]
 fn with_sorted(recorder: &mut Recorder, part: &Term, first: &Rec, inner: &Rec) -> Result<Rec, Fault>
@@ -65,7 +49,10 @@ fn sorted(
     if most == 0 {
         return Err(Fault::BadShape);
     }
-    let first = first_pulled(recorder, laws, whole, chain)?;
+    let Some(part) = first_part(whole, chain) else {
+        return Err(Fault::BadShape);
+    };
+    let first = pulled(recorder, laws, part, chain)?;
     let Some((part, rest)) = front_and_rest(conclusion_of(recorder, &first)) else {
         return Err(Fault::BadShape);
     };

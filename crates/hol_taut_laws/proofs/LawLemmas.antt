@@ -11,10 +11,10 @@ use Rattle.hol_journal.specs.Journal.{Journal, Recorded}
 use Rattle.hol_prelude_derivations.specs.Derivations.{theorems}
 use Rattle.hol_taut_laws.specs.LawTheorems.{tautology_theorems, law_theorem, place}
 use Rattle.hol_taut_laws.specs.HasLaws.{HasLaws, LawsStay}
-use Rattle.hol_taut_laws.specs.declared.law.Law.{Law}
+use Rattle.hol_taut_formulas.specs.declared.law.Law.{Law}
 use Rattle.hol_taut_laws.specs.declared.stored.Laws.{Laws}
-use Rattle.hol_taut_laws.specs.declared.law.Law.TheVariants.{Truth, Contr, Conj, Mp, Disj1, Disj2, AndFalseLeft, AndFalseRight}
-use Rattle.hol_taut_laws.specs.declared.law.Law.TheVariants.{ImpFalseLeft, ImpTrueRight, NotTrue, NotFalse, IffTrueLeft, IffTrueRight, IffFalseLeft, OrFalseLeft, NotFalseElim}
+use Rattle.hol_taut_formulas.specs.declared.law.Law.TheVariants.{Truth, Contr, Conj, Mp, Disj1, Disj2, AndFalseLeft, AndFalseRight}
+use Rattle.hol_taut_formulas.specs.declared.law.Law.TheVariants.{ImpFalseLeft, ImpTrueRight, NotTrue, NotFalse, IffTrueLeft, IffTrueRight, IffFalseLeft, OrFalseLeft, NotFalseElim}
 use Rattle.hol_taut_laws.proofs.Copies.{made-grown}
 
 pub laws-stay : LawsStay

@@ -5,9 +5,9 @@ use Rattle.hol_model.specs.Kernel.Theorem.{Theorem}
 use Rattle.hol_model.specs.Logic.NamedLogic.{true_term, false_term, conjunction, disjunction, implication, negation}
 use Rattle.hol_prelude.specs.Prelude.{p, q, r, shown, first_theorems, disjunction_theorems, case_theorems, existence_theorems, axiom_theorems, middle_theorems, conjunction_theorems}
 use Rattle.hol_prelude.specs.Laws.{laws}
-use Rattle.hol_taut_laws.specs.declared.law.Law.{Law}
-use Rattle.hol_taut_laws.specs.declared.law.Law.TheVariants.{Truth, Contr, Conj, Mp, Disj1, Disj2, AndFalseLeft, AndFalseRight}
-use Rattle.hol_taut_laws.specs.declared.law.Law.TheVariants.{ImpFalseLeft, ImpTrueRight, NotTrue, NotFalse, IffTrueLeft, IffTrueRight, IffFalseLeft, OrFalseLeft, NotFalseElim}
+use Rattle.hol_taut_formulas.specs.declared.law.Law.{Law}
+use Rattle.hol_taut_formulas.specs.declared.law.Law.TheVariants.{Truth, Contr, Conj, Mp, Disj1, Disj2, AndFalseLeft, AndFalseRight}
+use Rattle.hol_taut_formulas.specs.declared.law.Law.TheVariants.{ImpFalseLeft, ImpTrueRight, NotTrue, NotFalse, IffTrueLeft, IffTrueRight, IffFalseLeft, OrFalseLeft, NotFalseElim}
 
 -- ---- the tables
 

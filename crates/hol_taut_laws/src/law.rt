@@ -1,45 +1,8 @@
-// The laws, and where they stand.
+// Where the laws stand.
 ghost use Rattle.std.specs.Prelude.{◌≡◌};
 ghost use Rattle.hol_taut_laws.specs.LawTheorems.{place};
 
-/// A theorem of the connectives at truth values, of one formula `p` or of two, `p` and `q`.
-#[derive(Clone, Copy)]
-pub enum Law {
-    /// `|- T`.
-    Truth,
-    /// `F |- p`.
-    Contr,
-    /// `p |- q <=> p /\ q`.
-    Conj,
-    /// `p |- (p ==> q) <=> q`.
-    Mp,
-    /// `p |- p \/ q`.
-    Disj1,
-    /// `q |- p \/ q`.
-    Disj2,
-    /// `p <=> F |- p /\ q <=> F`.
-    AndFalseLeft,
-    /// `q <=> F |- p /\ q <=> F`.
-    AndFalseRight,
-    /// `p <=> F |- p ==> q`.
-    ImpFalseLeft,
-    /// `q |- p ==> q`.
-    ImpTrueRight,
-    /// `p |- ~p <=> F`.
-    NotTrue,
-    /// `p <=> F |- ~p`.
-    NotFalse,
-    /// `p |- (p <=> q) <=> q`.
-    IffTrueLeft,
-    /// `q |- (p <=> q) <=> p`.
-    IffTrueRight,
-    /// `p <=> F |- (q <=> F) <=> (p <=> q)`.
-    IffFalseLeft,
-    /// `p <=> F |- p \/ q <=> q`.
-    OrFalseLeft,
-    /// `(p <=> F) <=> F |- p`.
-    NotFalseElim,
-}
+use hol_taut_formulas::Law;
 
 /// The place of a law among the theorems that are made.
 pub(crate) fn place_of(law: Law) -> usize

@@ -11,5 +11,5 @@ mod stages;
 mod stored;
 mod tables;
 
-pub use law::Law;
+pub use hol_taut_formulas::Law;
 pub use stored::{Laws, law_theorem, laws_stay, tautology_laws};

@@ -8,11 +8,12 @@ ghost use Rattle.hol_prelude.specs.HasLogic.{HasLogic};
 ghost use Rattle.hol_taut_laws.specs.LawTheorems as spec;
 ghost use Rattle.hol_taut_laws.specs.HasLaws.{HasLaws, LawsStay};
 
-use crate::law::{Law, place_of};
+use crate::law::place_of;
 use crate::stages::with_denial;
 use hol_journal::{Rec, Recorder};
 use hol_model::Fault;
 use hol_prelude::Bool;
+use hol_taut_formulas::Law;
 
 /// The laws of the connectives at truth values, with the theorems that their derivations cite.
 #[derive(Drop)]

@@ -1,8 +1,9 @@
 // The denial of a part, and what it says of parts below it.
 use crate::planner::{Planner, Shown};
-use crate::steps::{Formula, Law, Rule, Step};
+use crate::steps::{Formula, Rule, Step};
 use crate::ways::Way;
 use hol_model::Fault;
+use hol_taut_formulas::Law;
 use indexmap::IndexMap;
 use std::alloc::Global;
 

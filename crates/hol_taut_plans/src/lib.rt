@@ -15,5 +15,6 @@ mod tables;
 mod values;
 mod ways;
 
+pub use hol_taut_formulas::Law;
 pub use plans::{Plan, planned};
-pub use steps::{Formula, Law, Rule, Step};
+pub use steps::{Formula, Rule, Step};

@@ -1,10 +1,11 @@
 // Steps that show parts whose values are known.
 use crate::cubes::Cube;
 use crate::parts::Parts;
-use crate::steps::{Formula, Law, Rule, Step};
+use crate::steps::{Formula, Rule, Step};
 use crate::values::Values;
 use crate::ways::{Side, Way, way_to};
 use hol_model::Fault;
+use hol_taut_formulas::Law;
 use indexmap::{IndexMap, IndexSet};
 use std::alloc::Global;
 

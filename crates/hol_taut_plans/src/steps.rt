@@ -1,47 +1,11 @@
 // The steps of a plan.
+use hol_taut_formulas::Law;
 
 /// A formula of a plan: a part of the whole by its number, or its equation with `F`.
 #[derive(Clone, Copy, PartialEq, Eq, Hash)]
 pub enum Formula {
     Part(usize),
     Denied(usize),
-}
-
-/// A law by which steps go, of two formulas `p` and `q`.
-#[derive(Clone, Copy, PartialEq, Eq, Hash)]
-pub enum Law {
-    /// `F |- p`.
-    Contr,
-    /// `p |- q <=> p /\ q`.
-    Conj,
-    /// `p |- (p ==> q) <=> q`.
-    Mp,
-    /// `p |- p \/ q`.
-    Disj1,
-    /// `q |- p \/ q`.
-    Disj2,
-    /// `p <=> F |- p /\ q <=> F`.
-    AndFalseLeft,
-    /// `q <=> F |- p /\ q <=> F`.
-    AndFalseRight,
-    /// `p <=> F |- p ==> q`.
-    ImpFalseLeft,
-    /// `q |- p ==> q`.
-    ImpTrueRight,
-    /// `p |- ~p <=> F`.
-    NotTrue,
-    /// `p <=> F |- ~p`.
-    NotFalse,
-    /// `p |- (p <=> q) <=> q`.
-    IffTrueLeft,
-    /// `q |- (p <=> q) <=> p`.
-    IffTrueRight,
-    /// `p <=> F |- (q <=> F) <=> (p <=> q)`.
-    IffFalseLeft,
-    /// `p <=> F |- p \/ q <=> q`.
-    OrFalseLeft,
-    /// `(p <=> F) <=> F |- p`.
-    NotFalseElim,
 }
 
 /// A rule of two theorems.

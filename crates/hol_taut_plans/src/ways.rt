@@ -1,6 +1,7 @@
 // How a part whose value is known follows from its sides.
 use crate::shapes::Shape;
-use crate::steps::{Law, Rule};
+use crate::steps::Rule;
+use hol_taut_formulas::Law;
 
 /// A side, its value, and the law that leads from it.
 #[derive(Clone, Copy)]

@@ -3,7 +3,7 @@ ghost use Rattle.std.specs.Prelude.{◌≡◌, false};
 
 use crate::console::Console;
 use crate::feed::Feed;
-use crate::hosting::{host, push_host_names};
+use crate::hosting::{host, host_names};
 use crate::laws::logs_are_checked;
 use crate::output::Output;
 use crate::running::{create, refused_in};
@@ -65,8 +65,7 @@ fn converse_hosted<'a, L: Sink>(
     requires { L.has_failed log.old ≡ false }
 {
     let alloc = rt.alloc();
-    let mut host_names = Vec::new(alloc);
-    push_host_names(alloc, &mut host_names)?;
+    let host_names = host_names(alloc)?;
     let view = RefCell::new(View::new(alloc, b"")?);
     converse_with(rt, &host_names, &view, feed, log, wants_log)
 }

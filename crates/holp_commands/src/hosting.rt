@@ -79,10 +79,12 @@ fn push_names<F: Copy>(
     Ok(())
 }
 
-/// Puts the names of the functions of the host at the end.
-pub(crate) fn push_host_names(alloc: Global, names: &mut Vec<String>) -> Result<(), Fault> {
-    push_names(alloc, names, &REFINERS)?;
-    push_names(alloc, names, &CONVERSIONS)?;
-    push_names(alloc, names, &hol_tactics::REFINERS)?;
-    push_names(alloc, names, &hol_tactics::CONVERSIONS)
+/// The names of the functions of the host.
+pub(crate) fn host_names(alloc: Global) -> Result<Vec<String>, Fault> {
+    let mut names = Vec::new(alloc);
+    push_names(alloc, &mut names, &REFINERS)?;
+    push_names(alloc, &mut names, &CONVERSIONS)?;
+    push_names(alloc, &mut names, &hol_tactics::REFINERS)?;
+    push_names(alloc, &mut names, &hol_tactics::CONVERSIONS)?;
+    Ok(names)
 }

@@ -1,7 +1,7 @@
 // Runs scripts over the host of the program.
 ghost use Rattle.std.specs.Prelude.{◌≡◌, false};
 
-use crate::hosting::{host, push_host_names};
+use crate::hosting::{host, host_names};
 use crate::laws::logs_are_checked;
 use crate::options::Options;
 use crate::output::Output;
@@ -90,8 +90,7 @@ fn run_over<L: Sink>(
 ) -> Result<u64, Fault>
     requires { L.has_failed log.old ≡ false }
 {
-    let mut host_names = Vec::new(rt.alloc());
-    push_host_names(rt.alloc(), &mut host_names)?;
+    let host_names = host_names(rt.alloc())?;
     let script = Script {
         origins: scripts.origins.as_slice(),
         text: scripts.text.as_slice(),

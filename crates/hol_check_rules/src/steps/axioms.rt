@@ -16,143 +16,142 @@ use crate::state::Theorem;
 use hol_check_changes::forming::{application, constant, equation_of, variable, within_limits};
 use hol_check_terms::terms::Terms;
 use hol_model::{Cause, Fault};
-use std::alloc::Global;
 
 /// A function equals the abstraction of its application.
-pub fn eta(alloc: Global, terms: &mut Terms) -> Result<Result<Theorem, Cause>, Fault>
+pub fn eta(terms: &mut Terms) -> Result<Result<Theorem, Cause>, Fault>
     ensures taken { Takes spec.eta_step result terms.new.terms }
     ensures grows { IsGrown terms.old terms.new }
 {
-    let hypotheses = set_of(alloc, terms, &[])?;
-    conclude(hypotheses, eta_conclusion(alloc, terms))
+    let hypotheses = set_of(terms, &[])?;
+    conclude(hypotheses, eta_conclusion(terms))
 }
 
 // (\x:A. t x) = t
-fn eta_conclusion(alloc: Global, terms: &mut Terms) -> Result<usize, Fault>
+fn eta_conclusion(terms: &mut Terms) -> Result<usize, Fault>
     ensures formed { IsFormed derivable.eta_axiom result terms.new.terms }
     ensures grows { IsGrown terms.old terms.new }
 {
-    let left = eta_abstraction(alloc, terms)?;
-    let right = eta_variable(alloc, terms)?;
-    equation_of(alloc, terms, left, right)
+    let left = eta_abstraction(terms)?;
+    let right = eta_variable(terms)?;
+    equation_of(terms, left, right)
 }
 
 // \x:A. t x
-fn eta_abstraction(alloc: Global, terms: &mut Terms) -> Result<usize, Fault>
+fn eta_abstraction(terms: &mut Terms) -> Result<usize, Fault>
     ensures named { IsNamed (lam theory.type_a (app derivable.eta_variable (bound 0))) result terms.new.terms }
     ensures grows { IsGrown terms.old terms.new }
 {
-    let body = eta_application(alloc, terms)?;
-    let ty = terms.type_variable(alloc, b"A")?;
+    let body = eta_application(terms)?;
+    let ty = terms.type_variable(b"A")?;
     terms.abstraction(ty, body)
 }
 
 // t x, under the binder of x
-fn eta_application(alloc: Global, terms: &mut Terms) -> Result<usize, Fault>
+fn eta_application(terms: &mut Terms) -> Result<usize, Fault>
     ensures named { IsNamed (app derivable.eta_variable (bound 0)) result terms.new.terms }
     ensures grows { IsGrown terms.old terms.new }
 {
-    let function = eta_variable(alloc, terms)?;
+    let function = eta_variable(terms)?;
     let argument = terms.bound(0)?;
     terms.application(function, argument)
 }
 
 // t:A->B
-fn eta_variable(alloc: Global, terms: &mut Terms) -> Result<usize, Fault>
+fn eta_variable(terms: &mut Terms) -> Result<usize, Fault>
     ensures named { IsNamed derivable.eta_variable result terms.new.terms }
     ensures grows { IsGrown terms.old terms.new }
 {
-    let ty = eta_type(alloc, terms)?;
-    variable(alloc, terms, b"t", ty)
+    let ty = eta_type(terms)?;
+    variable(terms, b"t", ty)
 }
 
 // A->B
-fn eta_type(alloc: Global, terms: &mut Terms) -> Result<usize, Fault>
+fn eta_type(terms: &mut Terms) -> Result<usize, Fault>
     ensures named { IsNamedType (types.function_type theory.type_a theory.type_b) result terms.new.types }
     ensures grows { IsGrown terms.old terms.new }
 {
-    let domain = terms.type_variable(alloc, b"A")?;
-    let codomain = terms.type_variable(alloc, b"B")?;
+    let domain = terms.type_variable(b"A")?;
+    let codomain = terms.type_variable(b"B")?;
     terms.function_type(domain, codomain)
 }
 
 /// A predicate that holds of something holds of its choice.
-pub fn select(alloc: Global, terms: &mut Terms) -> Result<Result<Theorem, Cause>, Fault>
+pub fn select(terms: &mut Terms) -> Result<Result<Theorem, Cause>, Fault>
     ensures taken { Takes spec.select_step result terms.new.terms }
     ensures grows { IsGrown terms.old terms.new }
 {
-    let hypothesis = select_hypothesis(alloc, terms)?;
-    let hypotheses = set_of(alloc, terms, &[hypothesis])?;
-    conclude(hypotheses, select_conclusion(alloc, terms))
+    let hypothesis = select_hypothesis(terms)?;
+    let hypotheses = set_of(terms, &[hypothesis])?;
+    conclude(hypotheses, select_conclusion(terms))
 }
 
 // P x
-fn select_hypothesis(alloc: Global, terms: &mut Terms) -> Result<usize, Fault>
+fn select_hypothesis(terms: &mut Terms) -> Result<usize, Fault>
     ensures named { IsNamed derivable.select_hypothesis result terms.new.terms }
     ensures fitting { IfOk result (IsFitting terms.new.terms) }
     ensures grows { IsGrown terms.old terms.new }
 {
-    let predicate = select_predicate(alloc, terms)?;
-    let argument = select_variable(alloc, terms)?;
+    let predicate = select_predicate(terms)?;
+    let argument = select_variable(terms)?;
     terms.application(predicate, argument)
 }
 
 // P (@ P)
-fn select_conclusion(alloc: Global, terms: &mut Terms) -> Result<usize, Fault>
+fn select_conclusion(terms: &mut Terms) -> Result<usize, Fault>
     ensures formed { IsFormed derivable.select_conclusion result terms.new.terms }
     ensures grows { IsGrown terms.old terms.new }
 {
-    let chosen = choice_application(alloc, terms)?;
-    let predicate = select_predicate(alloc, terms)?;
+    let chosen = choice_application(terms)?;
+    let predicate = select_predicate(terms)?;
     let number = application(terms, predicate, chosen)?;
-    within_limits(alloc, terms, number)
+    within_limits(terms, number)
 }
 
 // @ P
-fn choice_application(alloc: Global, terms: &mut Terms) -> Result<usize, Fault>
+fn choice_application(terms: &mut Terms) -> Result<usize, Fault>
     ensures named { IsNamed (app (const theory.choice_name (theory.choice_type theory.type_a)) derivable.select_predicate) result terms.new.terms }
     ensures grows { IsGrown terms.old terms.new }
 {
-    let choice = choice(alloc, terms)?;
-    let predicate = select_predicate(alloc, terms)?;
+    let choice = choice(terms)?;
+    let predicate = select_predicate(terms)?;
     terms.application(choice, predicate)
 }
 
 // @:(A->bool)->A
-fn choice(alloc: Global, terms: &mut Terms) -> Result<usize, Fault>
+fn choice(terms: &mut Terms) -> Result<usize, Fault>
     ensures named { IsNamed (const theory.choice_name (theory.choice_type theory.type_a)) result terms.new.terms }
     ensures grows { IsGrown terms.old terms.new }
 {
-    let predicates = predicate_type(alloc, terms)?;
-    let argument = terms.type_variable(alloc, b"A")?;
+    let predicates = predicate_type(terms)?;
+    let argument = terms.type_variable(b"A")?;
     let ty = terms.function_type(predicates, argument)?;
-    constant(alloc, terms, b"@", ty)
+    constant(terms, b"@", ty)
 }
 
 // P:A->bool
-fn select_predicate(alloc: Global, terms: &mut Terms) -> Result<usize, Fault>
+fn select_predicate(terms: &mut Terms) -> Result<usize, Fault>
     ensures named { IsNamed derivable.select_predicate result terms.new.terms }
     ensures grows { IsGrown terms.old terms.new }
 {
-    let ty = predicate_type(alloc, terms)?;
-    variable(alloc, terms, b"P", ty)
+    let ty = predicate_type(terms)?;
+    variable(terms, b"P", ty)
 }
 
 // x:A
-fn select_variable(alloc: Global, terms: &mut Terms) -> Result<usize, Fault>
+fn select_variable(terms: &mut Terms) -> Result<usize, Fault>
     ensures named { IsNamed derivable.select_variable result terms.new.terms }
     ensures grows { IsGrown terms.old terms.new }
 {
-    let ty = terms.type_variable(alloc, b"A")?;
-    variable(alloc, terms, b"x", ty)
+    let ty = terms.type_variable(b"A")?;
+    variable(terms, b"x", ty)
 }
 
 // A->bool
-fn predicate_type(alloc: Global, terms: &mut Terms) -> Result<usize, Fault>
+fn predicate_type(terms: &mut Terms) -> Result<usize, Fault>
     ensures named { IsNamedType (types.function_type theory.type_a types.bool_type) result terms.new.types }
     ensures grows { IsGrown terms.old terms.new }
 {
-    let domain = terms.type_variable(alloc, b"A")?;
+    let domain = terms.type_variable(b"A")?;
     let codomain = terms.boolean()?;
     terms.function_type(domain, codomain)
 }

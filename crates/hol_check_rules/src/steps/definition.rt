@@ -10,7 +10,6 @@ use hol_check_changes::forming::{equation_of, fitting_type};
 use hol_check_terms::reflection::reflects;
 use hol_check_terms::terms::Terms;
 use hol_model::{Cause, Fault};
-use std::alloc::Global;
 
 /// What a definition gives: the type of the constant, and the equation of the constant and its body.
 #[derive(Clone, Copy)]
@@ -22,7 +21,6 @@ pub struct Definition {
 /// The definition of a constant of a new name as a term in which no variable is free, and whose type variables all stand
 /// in its type.
 pub fn define(
-    alloc: Global,
     terms: &mut Terms,
     name: usize,
     body: usize,
@@ -33,13 +31,13 @@ pub fn define(
     ensures refused { IfErr result (λ fault. fault ≡ Memory) }
     ensures grows { IsGrown terms.old terms.new }
 {
-    let ty = fitting_type(alloc, terms, body)?;
-    let definable = is_definable(alloc, terms, ty, body)?;
+    let ty = fitting_type(terms, body)?;
+    let definable = is_definable(terms, ty, body)?;
     if !definable {
         return Ok(Err(Cause::Rule));
     }
     let constant = terms.constant(name, ty)?;
-    match equation_of(alloc, terms, constant, body) {
+    match equation_of(terms, constant, body) {
         Ok(conclusion) => Ok(Ok(Definition { ty, conclusion })),
         Err(Fault::TooLarge) => Ok(Err(Cause::Large)),
         Err(_fault) => Err(Fault::Memory),
@@ -47,7 +45,7 @@ pub fn define(
 }
 
 // Whether no variable is free in a term, and each of its type variables stands in a type.
-fn is_definable(alloc: Global, terms: &Terms, ty: usize, body: usize) -> Result<bool, Fault>
+fn is_definable(terms: &Terms, ty: usize, body: usize) -> Result<bool, Fault>
     requires ty { ty < length terms.now.types }
     requires body { body < length terms.now.terms }
     ensures definable { IfOk result (λ answer. answer ≡ spec.is_definable (type_at terms.now.types ty) (term_at terms.now.terms body)) }
@@ -56,5 +54,5 @@ fn is_definable(alloc: Global, terms: &Terms, ty: usize, body: usize) -> Result<
     if !terms.has_no_free(body) {
         return Ok(false);
     }
-    reflects(alloc, terms, ty, body)
+    reflects(terms, ty, body)
 }

@@ -18,20 +18,19 @@ use hol_check_changes::forming::{
 };
 use hol_check_terms::terms::Terms;
 use hol_model::Cause;
-use std::alloc::Global;
 
 /// A term equals itself.
-pub fn refl(alloc: Global, terms: &mut Terms, term: usize) -> Taken
+pub fn refl(terms: &mut Terms, term: usize) -> Taken
     requires { IsFitting terms.old.terms term }
     ensures taken { Takes (spec.refl_step (term_at terms.old.terms term)) result terms.new.terms }
     ensures grows { IsGrown terms.old terms.new }
 {
-    let hypotheses = set_of(alloc, terms, &[])?;
-    conclude(hypotheses, equation_of(alloc, terms, term, term))
+    let hypotheses = set_of(terms, &[])?;
+    conclude(hypotheses, equation_of(terms, term, term))
 }
 
 /// From `a = b` and `b = c` follows `a = c`.
-pub fn trans(alloc: Global, terms: &mut Terms, first: &Theorem, second: &Theorem) -> Taken
+pub fn trans(terms: &mut Terms, first: &Theorem, second: &Theorem) -> Taken
     requires first { IsFittingTheorem terms.old.terms first.now }
     requires second { IsFittingTheorem terms.old.terms second.now }
     ensures taken { Takes (spec.trans_step (sequent_in terms.old.terms first.now) (sequent_in terms.old.terms second.now)) result terms.new.terms }
@@ -48,8 +47,8 @@ pub fn trans(alloc: Global, terms: &mut Terms, first: &Theorem, second: &Theorem
     ) {
         return Ok(Err(Cause::Rule));
     }
-    let hypotheses = union(alloc, terms, &first.hypotheses, &second.hypotheses)?;
-    conclude(hypotheses, equation_of(alloc, terms, left, right))
+    let hypotheses = union(terms, &first.hypotheses, &second.hypotheses)?;
+    conclude(hypotheses, equation_of(terms, left, right))
 }
 
 /// Whether both conclusions are equations.
@@ -62,7 +61,7 @@ pub(crate) fn are_equations(terms: &Terms, first: &Theorem, second: &Theorem) ->
 }
 
 /// From `f = g` and `x = y` follows `f x = g y`.
-pub fn mk_comb(alloc: Global, terms: &mut Terms, first: &Theorem, second: &Theorem) -> Taken
+pub fn mk_comb(terms: &mut Terms, first: &Theorem, second: &Theorem) -> Taken
     requires first { IsFittingTheorem terms.old.terms first.now }
     requires second { IsFittingTheorem terms.old.terms second.now }
     ensures taken { Takes (spec.mk_comb_step (sequent_in terms.old.terms first.now) (sequent_in terms.old.terms second.now)) result terms.new.terms }
@@ -75,21 +74,18 @@ pub fn mk_comb(alloc: Global, terms: &mut Terms, first: &Theorem, second: &Theor
     let argument = left_side(terms, second.conclusion);
     let other_function = right_side(terms, first.conclusion);
     let other_argument = right_side(terms, second.conclusion);
-    let hypotheses = union(alloc, terms, &first.hypotheses, &second.hypotheses)?;
+    let hypotheses = union(terms, &first.hypotheses, &second.hypotheses)?;
     let fit = sides_fit(terms, first.conclusion, second.conclusion)?;
     if !fit {
         return Ok(Err(Cause::Kind));
     }
     let left = (function, argument);
     let right = (other_function, other_argument);
-    conclude(
-        hypotheses,
-        equation_of_applications(alloc, terms, left, right),
-    )
+    conclude(hypotheses, equation_of_applications(terms, left, right))
 }
 
 /// From `a = b` follows that the abstractions of both over a variable are equal, where it is free in no hypothesis.
-pub fn abs(alloc: Global, terms: &mut Terms, variable: usize, premise: &Theorem) -> Taken
+pub fn abs(terms: &mut Terms, variable: usize, premise: &Theorem) -> Taken
     requires variable { IsFitting terms.old.terms variable }
     requires premise { IsFittingTheorem terms.old.terms premise.now }
     ensures taken { Takes (spec.abs_step (term_at terms.old.terms variable) (sequent_in terms.old.terms premise.now)) result terms.new.terms }
@@ -101,29 +97,29 @@ pub fn abs(alloc: Global, terms: &mut Terms, variable: usize, premise: &Theorem)
     if !is_equation(terms, premise.conclusion) {
         return Ok(Err(Cause::Rule));
     }
-    let found = is_free_in_any(alloc, terms, variable, &premise.hypotheses)?;
+    let found = is_free_in_any(terms, variable, &premise.hypotheses)?;
     if found {
         return Ok(Err(Cause::Rule));
     }
     let left = left_side(terms, premise.conclusion);
     let right = right_side(terms, premise.conclusion);
-    let hypotheses = set_of(alloc, terms, &premise.hypotheses)?;
+    let hypotheses = set_of(terms, &premise.hypotheses)?;
     conclude(
         hypotheses,
-        equation_of_abstractions(alloc, terms, variable, left, right),
+        equation_of_abstractions(terms, variable, left, right),
     )
 }
 
 /// An abstraction that is applied to a variable that is not free in it equals its body with that variable.
-pub fn beta(alloc: Global, terms: &mut Terms, term: usize) -> Taken
+pub fn beta(terms: &mut Terms, term: usize) -> Taken
     requires { IsFitting terms.old.terms term }
     ensures taken { Takes (spec.beta_step (term_at terms.old.terms term)) result terms.new.terms }
     ensures grows { IsGrown terms.old terms.new }
 {
-    let trivial = is_trivial_redex(alloc, terms, term)?;
+    let trivial = is_trivial_redex(terms, term)?;
     if !trivial {
         return Ok(Err(Cause::Rule));
     }
-    let hypotheses = set_of(alloc, terms, &[])?;
-    conclude(hypotheses, equation_of_redex(alloc, terms, term))
+    let hypotheses = set_of(terms, &[])?;
+    conclude(hypotheses, equation_of_redex(terms, term))
 }

@@ -28,29 +28,23 @@ use hol_check_changes::leaves::Change;
 use hol_check_terms::terms::Terms;
 use hol_check_terms::types::TypeShape;
 use hol_model::{Cause, Fault};
-use std::alloc::Global;
 
 /// A theorem with free variables replaced, all at once, by pairs (new, old), of which the first counts.
-pub fn inst(alloc: Global, terms: &mut Terms, premise: &Theorem, pairs: &[(usize, usize)]) -> Taken
+pub fn inst(terms: &mut Terms, premise: &Theorem, pairs: &[(usize, usize)]) -> Taken
     requires premise { IsFittingTheorem terms.old.terms premise.now }
     requires pairs { All (IsFittingPair terms.old.terms) pairs.now }
     ensures taken { Takes (spec.inst_step (sequent_in terms.old.terms premise.now) (term_pairs_in terms.old.terms pairs.now)) result terms.new.terms }
     ensures grows { IsGrown terms.old terms.new }
 {
-    let replaces = are_replacements(alloc, terms, pairs)?;
+    let replaces = are_replacements(terms, pairs)?;
     if !replaces {
         return Ok(Err(Cause::Kind));
     }
-    changed_theorem(alloc, terms, &Change::Put(pairs), premise)
+    changed_theorem(terms, &Change::Put(pairs), premise)
 }
 
 /// A theorem with type variables replaced, all at once, by pairs (new, old), of which the first counts.
-pub fn inst_type(
-    alloc: Global,
-    terms: &mut Terms,
-    premise: &Theorem,
-    pairs: &[(usize, usize)],
-) -> Taken
+pub fn inst_type(terms: &mut Terms, premise: &Theorem, pairs: &[(usize, usize)]) -> Taken
     requires premise { IsFittingTheorem terms.old.terms premise.now }
     requires pairs { All (IsTypePair terms.old.types) pairs.now }
     ensures taken { Takes (spec.inst_type_step (sequent_in terms.old.terms premise.now) (type_pairs_in terms.old.types pairs.now)) result terms.new.terms }
@@ -59,22 +53,18 @@ pub fn inst_type(
     if !replace_type_variables(terms, pairs) {
         return Ok(Err(Cause::Kind));
     }
-    changed_theorem(alloc, terms, &Change::Instantiate(pairs), premise)
+    changed_theorem(terms, &Change::Instantiate(pairs), premise)
 }
 
 // Whether each pair puts a term for a variable of its type.
-fn are_replacements(
-    alloc: Global,
-    terms: &mut Terms,
-    pairs: &[(usize, usize)],
-) -> Result<bool, Fault>
+fn are_replacements(terms: &mut Terms, pairs: &[(usize, usize)]) -> Result<bool, Fault>
     requires { All (IsFittingPair terms.old.terms) pairs.now }
     ensures are { IfOk result (λ answer. answer ≡ list_all is_replacement (term_pairs_in terms.old.terms pairs.now)) }
     ensures refused { IfErr result (λ fault. fault ≡ Memory) }
     ensures grows { IsGrown terms.old terms.new }
 {
     for pair in pairs {
-        let replaces = is_replacement(alloc, terms, pair.0, pair.1)?;
+        let replaces = is_replacement(terms, pair.0, pair.1)?;
         if !replaces {
             return Ok(false);
         }
@@ -83,7 +73,7 @@ fn are_replacements(
 }
 
 // Whether a term may stand for another, a variable of its type.
-fn is_replacement(alloc: Global, terms: &mut Terms, new: usize, old: usize) -> Result<bool, Fault>
+fn is_replacement(terms: &mut Terms, new: usize, old: usize) -> Result<bool, Fault>
     requires new { IsFitting terms.old.terms new }
     requires old { IsFitting terms.old.terms old }
     ensures is { IfOk result (λ answer. answer ≡ is_replacement (term_at terms.old.terms new, term_at terms.old.terms old)) }
@@ -93,7 +83,7 @@ fn is_replacement(alloc: Global, terms: &mut Terms, new: usize, old: usize) -> R
     if !is_free_variable(terms, old) {
         return Ok(false);
     }
-    have_one_type(alloc, terms, new, old)
+    have_one_type(terms, new, old)
 }
 
 // Whether each pair puts a type for a type variable.
@@ -121,61 +111,43 @@ fn is_type_variable(terms: &Terms, ty: usize) -> bool
 }
 
 // The change of each term of a theorem.
-fn changed_theorem(
-    alloc: Global,
-    terms: &mut Terms,
-    change: &Change<'_>,
-    premise: &Theorem,
-) -> Taken
+fn changed_theorem(terms: &mut Terms, change: &Change<'_>, premise: &Theorem) -> Taken
     requires meaning { HasMeaning terms.old change.now }
     requires premise { IsFittingTheorem terms.old.terms premise.now }
     ensures taken { (meaning : PartChange) → IsMeant terms.old change.now meaning → Takes (changed_step (changed meaning 0) (sequent_in terms.old.terms premise.now)) result terms.new.terms }
     ensures grows { IsGrown terms.old terms.new }
 {
-    let changed = match change_each(alloc, terms, change, &premise.hypotheses) {
+    let changed = match change_each(terms, change, &premise.hypotheses) {
         Ok(changed) => changed,
         Err(Fault::TooLarge) => return Ok(Err(Cause::Large)),
         Err(_fault) => return Err(Fault::Memory),
     };
-    let hypotheses = set_of(alloc, terms, &changed)?;
-    conclude(
-        hypotheses,
-        change_within(alloc, terms, change, premise.conclusion),
-    )
+    let hypotheses = set_of(terms, &changed)?;
+    conclude(hypotheses, change_within(terms, change, premise.conclusion))
 }
 
 // The change of each term of a list.
-fn change_each(
-    alloc: Global,
-    terms: &mut Terms,
-    change: &Change<'_>,
-    list: &[usize],
-) -> Result<Vec<usize>, Fault>
+fn change_each(terms: &mut Terms, change: &Change<'_>, list: &[usize]) -> Result<Vec<usize>, Fault>
     requires meaning { HasMeaning terms.old change.now }
     requires list { All (IsFitting terms.old.terms) list.now }
     ensures changed { (meaning : PartChange) → IsMeant terms.old change.now meaning → AreFormed (map (changed meaning 0) (terms_in terms.old.terms list.now)) result terms.new.terms }
     ensures grows { IsGrown terms.old terms.new }
 {
-    let mut news = Vec::new(alloc);
+    let mut news = Vec::new(terms.alloc());
     for number in list {
-        let new = change_within(alloc, terms, change, *number)?;
+        let new = change_within(terms, change, *number)?;
         news.push(new)?;
     }
     Ok(news)
 }
 
 // The change of a term, within the limits.
-fn change_within(
-    alloc: Global,
-    terms: &mut Terms,
-    change: &Change<'_>,
-    number: usize,
-) -> Result<usize, Fault>
+fn change_within(terms: &mut Terms, change: &Change<'_>, number: usize) -> Result<usize, Fault>
     requires number { number < length terms.old.terms }
     requires meaning { HasMeaning terms.old change.now }
     ensures changed { (meaning : PartChange) → IsMeant terms.old change.now meaning → IsFormed (changed meaning 0 (term_at terms.old.terms number)) result terms.new.terms }
     ensures grows { IsGrown terms.old terms.new }
 {
-    let new = change_whole(alloc, terms, change, number)?;
-    within_limits(alloc, terms, new)
+    let new = change_whole(terms, change, number)?;
+    within_limits(terms, new)
 }

@@ -15,10 +15,10 @@ returns-clause-outcome c =
     let wanted = images first ++ images second in
     let both = conjunction first.conclusion second.conclusion in
     answered c.conj_in_room.result (terms_of_theorem first ++ terms_of_theorem second) wanted wanted both (conj_outcome first second) refl (record { to = λ x m. m; back = λ x m. m })
-    (λ room roomy. c.conj_in_room.ensures.derives (images first) (images second) (image first.conclusion) (image second.conclusion) room (shows-itself first) (shows-itself second)
+    (λ room roomy. c.conj_in_room.ensures.conjoins.1 (images first) (images second) (image first.conclusion) (image second.conclusion) room (shows-itself first) (shows-itself second)
     (conj-equation-fits room (image first.conclusion) (image second.conclusion) (first-roomy room first second (image both ∷ wanted) roomy)
     (second-roomy room first second (image both ∷ wanted) roomy)))
-    c.conj_in_room.ensures.names
+    c.conj_in_room.ensures.conjoins.0
 
 pub returns-clause-inferred : goal.returns-clause-inferred
 returns-clause-inferred c = infers_conj (returns-clause-outcome c)

@@ -54,7 +54,7 @@ returns-clause-derives c h q room shown fits =
     Shows c.in_ok-equation.equation.theorem left (nameless_equation bool_type (nameless.conjunction (image a) t) (image a)))
     (sym shown.concludes) (c.in_ok-equation.ensures.derives h q room shown fits) in
     let answer : DerivesIf room c.by_leading_theorem.result left (nameless.implication (image a) (image b)) =
-    subst (λ (t : NamedTerm). LeadsTo c.conj_absorption.new.recorder.theory 16 terms room from (image t) → DerivesIf room c.by_leading_theorem.result left (image t)) stated_is
+    subst (λ (t : NamedTerm). LeadsTo c.absorption.new.recorder.theory 16 terms room from (image t) → DerivesIf room c.by_leading_theorem.result left (image t)) stated_is
     (λ l. c.by_leading_theorem.ensures.derives left from room l equation) leads in
     subst (λ (t : Nameless). DerivesIf room c.by_leading_theorem.result left (nameless.implication (image a) t)) shown.concludes answer
 
@@ -65,7 +65,7 @@ by_leading_theorem-requires-clause-leads c =
     let b = premise.conclusion in
     let concluded = c.conclusion_of-q.ensures in
     let terms = c.deref.result.now in
-    let theory = c.conj_absorption.new.recorder.theory in
+    let theory = c.absorption.new.recorder.theory in
     let stated_is = connected-is c.in_ok-stated.stated implies_name a b a c.conclusion_of-q.result.now c.requires.formula.typed concluded.formula.typed refl concluded.value c.in_ok-stated.ensures in
     let terms_are : terms ≡ at_p_q a b = c.deref.ensures.value ∙ c.in_ok-terms.ensures.ok ∙ ap (at_p_q a) concluded.value in
     let from = nameless_equation bool_type (nameless.conjunction (image a) (image b)) (image a) in
@@ -82,7 +82,7 @@ by_leading_theorem-requires-clause-stated c =
     let b = c.args.premise.now.theorem.conclusion in
     let concluded = c.conclusion_of-q.ensures in
     let stated_is = connected-is c.in_ok-stated.stated implies_name a b a c.conclusion_of-q.result.now c.requires.formula.typed concluded.formula.typed refl concluded.value c.in_ok-stated.ensures in
-    formula_in c.conj_absorption.new.recorder.theory journal.theory c.in_ok-stated.stated c.in_ok-equation.ensures.continues.theory
+    formula_in c.absorption.new.recorder.theory journal.theory c.in_ok-stated.stated c.in_ok-equation.ensures.continues.theory
     (made-formula journal.theory c.in_ok-stated.stated (implication a b) stated_is
     (connects journal c.args.logic.now c.requires.logic concluded.legal implies_name refl a b c.requires.formula concluded.formula))
 

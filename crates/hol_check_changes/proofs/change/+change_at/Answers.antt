@@ -4,6 +4,7 @@ use Rattle.hol_model.specs.Terms.Nameless.{Nameless, app, lam}
 use Rattle.hol_model.specs.Terms.Measures.{nameless_height}
 use Rattle.hol_check_terms.specs.Terms.{term_at, type_at}
 use Rattle.hol_check_terms.proofs.TableLemmas.{is_within}
+use Rattle.hol_check_changes.specs.Change.{changed, AnswersLeaf}
 use Rattle.hol_check_changes.proofs.ChangeLemmas.{answers-spared, answers-known, answers-leaf, refused-function, refused-argument, refused-body, refused-binder, held-after-type, answers-refused}
 use Rattle.hol_check_changes.proofs.ChangeLemmas.{answers-made, application-parts, abstraction-parts, under-is, inside-bound}
 use Rattle.hol_check_terms.proofs.GrowthLemmas.{type-within, within-grown, term-grown, IsGrown-trans}
@@ -21,8 +22,11 @@ returns-in-Free-clause-changed t c = λ meaning held.
 
 pub returns-in-Constant-clause-changed : goal.returns-in-Constant-clause-changed
 returns-in-Constant-clause-changed t c = λ meaning held.
+    let wanted = sym (ap (changed meaning c.args.passed) c.in-Constant.ensures.shape) in
     answers-leaf c.args.terms.now c.change_constant.new.terms c.args.change.now c.args.parts.now.entries c.args.types.now.entries c.change_constant.new.types.entries meaning _
-    c.change_constant.result c.change_constant.ensures.grows held (c.change_constant.ensures.changed meaning held.held)
+    c.change_constant.result c.change_constant.ensures.grows held
+    (subst (λ (u : Nameless). AnswersLeaf u c.change_constant.result c.change_constant.new.terms c.args.change.now c.change_constant.new.types.entries meaning) wanted
+    (c.change_constant.ensures.changed meaning held.held))
 
 -- combinations
 

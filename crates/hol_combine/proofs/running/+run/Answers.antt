@@ -24,18 +24,18 @@ pub run-run_links-requires : goal.run-run_links-requires
 run-run_links-requires g t c =
     let posed = rw (c.in-Chain.is, chain_means) at c.requires.posed in
     let here = rw c.deref-in-Chain.ensures at c.in-Ok.ensures.outcome in
-    let asked = rw (← c.in-Ok.ensures.theory, ← c.deref-in-Ok.ensures.value) at (links-posed _ _ here posed) in
-    λ κs lives. (search (rules, tac.the_lemmas, tac.size_is-Tac), (lives.0, (lives.1, (c.in-Ok.ensures.ready, asked))))
+    let asked = rw (← c.in-Ok.ensures.kept.theory, ← c.deref-in-Ok.ensures.value) at (links-posed _ _ here posed) in
+    λ κs lives. (search (rules, tac.the_lemmas, tac.size_is-Tac), (lives.0, (lives.1, (c.in-Ok.ensures.kept.ready, asked))))
 
 pub run-run_others-requires : goal.run-run_others-requires
 run-run_others-requires g t c =
     let posed = rw (c.in-OrElse.is, orelse_means) at c.requires.posed in
     let here = rw c.deref-in-OrElse.ensures at c.in-Err-run.ensures.outcome in
-    let asked = rw (← c.in-Err-run.ensures.theory, ← c.deref-in-Err-run.ensures.value) at (others-posed _ _ here posed) in
+    let asked = rw (← c.in-Err-run.ensures.kept.theory, ← c.deref-in-Err-run.ensures.value) at (others-posed _ _ here posed) in
     search (rules, tac.the_lemmas, tac.size_is-Tac)
 
 pub run-refine-requires-in-Err-run-2-clause-posed : goal.run-refine-requires-in-Err-run-2-clause-posed
-run-refine-requires-in-Err-run-2-clause-posed g t c = rw c.in-Err-run-2.ensures.theory (stays-posed _ _ c.in-Err-run-2.ensures.outcome c.requires.posed)
+run-refine-requires-in-Err-run-2-clause-posed g t c = rw c.in-Err-run-2.ensures.kept.theory (stays-posed _ _ c.in-Err-run-2.ensures.outcome c.requires.posed)
 
 pub run_link-run_on_each-requires : goal.run_link-run_on_each-requires
 run_link-run_on_each-requires g t c =
@@ -44,7 +44,7 @@ run_link-run_on_each-requires g t c =
     search (rules, link.the_lemmas, link.size_is-Link)
 
 pub run_once-refine-requires-clause-posed : goal.run_once-refine-requires-clause-posed
-run_once-refine-requires-clause-posed g t c = rw c.in-Err.ensures.theory (stays-posed _ _ c.in-Err.ensures.outcome c.requires.posed)
+run_once-refine-requires-clause-posed g t c = rw c.in-Err.ensures.kept.theory (stays-posed _ _ c.in-Err.ensures.outcome c.requires.posed)
 
 -- ---- what they answer
 
@@ -54,7 +54,7 @@ run-returns-then-not-is_caught-clause-outcome g t c =
 
 pub run-returns-in-Ok-clause-outcome : goal.run-returns-in-Ok-clause-outcome
 run-returns-in-Ok-clause-outcome g t c =
-    rw (c.in-Chain.is, chain_means) (first_goes_on (rw c.deref-in-Chain.ensures at c.in-Ok.ensures.outcome) (rw (c.deref-in-Ok.ensures.value, c.in-Ok.ensures.theory) at c.run_links.ensures.outcome))
+    rw (c.in-Chain.is, chain_means) (first_goes_on (rw c.deref-in-Chain.ensures at c.in-Ok.ensures.outcome) (rw (c.deref-in-Ok.ensures.value, c.in-Ok.ensures.kept.theory) at c.run_links.ensures.outcome))
 
 pub run-returns-in-Err-clause-outcome : goal.run-returns-in-Err-clause-outcome
 run-returns-in-Err-clause-outcome g t c =
@@ -66,7 +66,7 @@ run-returns-in-Ok-run-clause-outcome g t c =
 
 pub run-returns-in-Err-run-clause-outcome : goal.run-returns-in-Err-run-clause-outcome
 run-returns-in-Err-run-clause-outcome g t c =
-    let goes = rw (c.deref-in-Err-run.ensures.value, c.in-Err-run.ensures.theory) at c.run_others.ensures.outcome in
+    let goes = rw (c.deref-in-Err-run.ensures.value, c.in-Err-run.ensures.kept.theory) at c.run_others.ensures.outcome in
     rw (c.in-OrElse.is, orelse_means) (goes.answers _ _ (rw c.deref-in-OrElse.ensures at c.in-Err-run.ensures.outcome))
 
 pub run-returns-in-Repeat-clause-outcome : goal.run-returns-in-Repeat-clause-outcome
@@ -78,7 +78,7 @@ run-returns-in-Ok-run-2-clause-outcome g t c =
 
 pub run-returns-else-not-is_caught-clause-outcome : goal.run-returns-else-not-is_caught-clause-outcome
 run-returns-else-not-is_caught-clause-outcome g t c =
-    let stays = rw c.in-Err-run-2.ensures.theory at c.refine-in-Err-run-2.ensures.outcome in
+    let stays = rw c.in-Err-run-2.ensures.kept.theory at c.refine-in-Err-run-2.ensures.outcome in
     rw c.in-Try.is (tries _ _ (first_is_caught (rw c.deref-in-Try.ensures at c.in-Err-run-2.ensures.outcome) (search rules) (alone _ _ _ stays)))
 
 pub run_link-returns-then-is_empty-clause-outcome : goal.run_link-returns-then-is_empty-clause-outcome
@@ -120,9 +120,9 @@ run_links-loop-link-preserved g t c =
     let posed = rw (links-drop c.args.links.now c.loop-link.link-index c.link-item.result (omega arith) c.link-item.is) at c.loop-link.invariant.4 in
     let here = rw (c.deref.ensures.value, c.loop-link.invariant.1) at c.in_ok-steps.ensures.outcome in (
       on-next _ _ so_far here c.in_ok-step.ensures,
-      c.in_ok-steps.ensures.theory ∙ c.loop-link.invariant.1,
-      c.in_ok-steps.ensures.ready,
-      g.met.L.Leaves.extends_twice _ _ _ c.loop-link.invariant.3 c.in_ok-steps.ensures.extends,
+      c.in_ok-steps.ensures.kept.theory ∙ c.loop-link.invariant.1,
+      c.in_ok-steps.ensures.kept.ready,
+      g.met.L.Leaves.extends_twice _ _ _ c.loop-link.invariant.3 c.in_ok-steps.ensures.kept.extends,
       made-posed _ _ (links_of (drop (c.loop-link.link-index + 1) c.args.links.now)) (step_of c.loop-link.step) here posed c.in_ok-step.ensures,
     )
 
@@ -148,9 +148,9 @@ run_on_all-loop-goal-preserved g t c =
     let posed = rw (goals-drop c.args.goals.now c.loop-goal.goal-index c.goal-item.result (omega arith) c.goal-item.is) at c.loop-goal.invariant.4 in
     let here = rw c.loop-goal.invariant.1 at c.in_ok-step.ensures.outcome in (
       rw (c.in_ok-keep.ensures.ok, map-append) (each-next _ _ so_far here),
-      c.in_ok-step.ensures.theory ∙ c.loop-goal.invariant.1,
-      c.in_ok-step.ensures.ready,
-      g.met.L.Leaves.extends_twice _ _ _ c.loop-goal.invariant.3 c.in_ok-step.ensures.extends,
+      c.in_ok-step.ensures.kept.theory ∙ c.loop-goal.invariant.1,
+      c.in_ok-step.ensures.kept.ready,
+      g.met.L.Leaves.extends_twice _ _ _ c.loop-goal.invariant.3 c.in_ok-step.ensures.kept.extends,
       goals-posed _ _ here posed,
     )
 
@@ -187,9 +187,9 @@ run_on_each-loop-i-preserved g t c =
     let posed = rw (next_tac, next_goal) at c.loop-i.invariant.4 in
     let here = rw c.loop-i.invariant.1 at c.in_ok-step.ensures.outcome in (
       rw (c.in_ok-keep.ensures.ok, map-append) (paired-next _ _ so_far here),
-      c.in_ok-step.ensures.theory ∙ c.loop-i.invariant.1,
-      c.in_ok-step.ensures.ready,
-      g.met.L.Leaves.extends_twice _ _ _ c.loop-i.invariant.3 c.in_ok-step.ensures.extends,
+      c.in_ok-step.ensures.kept.theory ∙ c.loop-i.invariant.1,
+      c.in_ok-step.ensures.kept.ready,
+      g.met.L.Leaves.extends_twice _ _ _ c.loop-i.invariant.3 c.in_ok-step.ensures.kept.extends,
       pairs-posed _ _ (tactics_of (drop (c.loop-i.i + 1) c.args.tacs.now)) here posed,
     )
 
@@ -212,9 +212,9 @@ run_others-loop-other-preserved g t c =
     let posed = rw (tactics-drop c.args.rest.now c.loop-other.other-index c.other-item.result (omega arith) c.other-item.is) at c.loop-other.invariant.4 in
     let here = rw c.loop-other.invariant.1 at c.in-Err.ensures.outcome in (
       others-next _ _ so_far (search rules) here,
-      c.in-Err.ensures.theory ∙ c.loop-other.invariant.1,
-      c.in-Err.ensures.ready,
-      g.met.L.Leaves.extends_twice _ _ _ c.loop-other.invariant.3 c.in-Err.ensures.extends,
+      c.in-Err.ensures.kept.theory ∙ c.loop-other.invariant.1,
+      c.in-Err.ensures.kept.ready,
+      g.met.L.Leaves.extends_twice _ _ _ c.loop-other.invariant.3 c.in-Err.ensures.kept.extends,
       further-posed _ _ (tactic_of c.other-item.result) (tactics_of (drop (c.loop-other.other-index + 1) c.args.rest.now)) here posed,
     )
 
@@ -228,11 +228,11 @@ run_once-returns-then-not-is_caught-clause-outcome g t c =
 
 pub run_once-returns-in-Ok-refine-clause-outcome : goal.run_once-returns-in-Ok-refine-clause-outcome
 run_once-returns-in-Ok-refine-clause-outcome g t c =
-    repeats-stays _ _ _ _ c.in-Err.ensures.outcome (search rules) (rw c.in-Err.ensures.theory at c.in-Ok-refine.ensures.outcome)
+    repeats-stays _ _ _ _ c.in-Err.ensures.outcome (search rules) (rw c.in-Err.ensures.kept.theory at c.in-Ok-refine.ensures.outcome)
 
 pub run_once-returns-in-Err-refine-clause-outcome : goal.run_once-returns-in-Err-refine-clause-outcome
 run_once-returns-in-Err-refine-clause-outcome g t c =
-    let stays = rw c.in-Err.ensures.theory at c.in-Err-refine.ensures.outcome in
+    let stays = rw c.in-Err.ensures.kept.theory at c.in-Err-refine.ensures.outcome in
     (repeats-stays _ _ _ _ c.in-Err.ensures.outcome (search rules) stays, all-passes _ _ stays)
 
 -- ---- REPEAT
@@ -245,9 +245,9 @@ run_repeat-returns-in_err-begin-in-Refined-clause-outcome g t c =
 pub run_repeat-loop-frame-init : goal.run_repeat-loop-frame-init
 run_repeat-loop-frame-init g t c = (
   rw (c.in_ok-begin-in-Refined.ensures.ok, c.new-stack.ensures.items) (begins _ _ _ _ _ at_bottom c.in-Refined.ensures.outcome),
-  c.in-Refined.ensures.theory,
-  c.in-Refined.ensures.ready,
-  c.in-Refined.ensures.extends,
+  c.in-Refined.ensures.kept.theory,
+  c.in-Refined.ensures.kept.ready,
+  c.in-Refined.ensures.kept.extends,
   rw (c.in_ok-begin-in-Refined.ensures.ok, c.new-stack.ensures.items) (begun-posed _ _ (Some 0) c.in-Refined.ensures.outcome c.requires.posed),
 )
 
@@ -261,9 +261,9 @@ run_repeat-loop-frame-preserved-in-Continue-branch-2 g t c =
     let frames = rw (c.in-Some.ensures, c.in-Some-take_goal.ensures) at c.loop-frame.invariant.4 in
     let here = rw c.loop-frame.invariant.1 at c.in-Refined-once.ensures.outcome in (
       rw c.in_ok-descend-in-Refined-once.ensures.ok (begins _ _ _ _ _ waits here),
-      c.in-Refined-once.ensures.theory ∙ c.loop-frame.invariant.1,
-      c.in-Refined-once.ensures.ready,
-      g.met.L.Leaves.extends_twice _ _ _ c.loop-frame.invariant.3 c.in-Refined-once.ensures.extends,
+      c.in-Refined-once.ensures.kept.theory ∙ c.loop-frame.invariant.1,
+      c.in-Refined-once.ensures.kept.ready,
+      g.met.L.Leaves.extends_twice _ _ _ c.loop-frame.invariant.3 c.in-Refined-once.ensures.kept.extends,
       rw c.in_ok-descend-in-Refined-once.ensures.ok (descends-posed _ _ (next_above (frame_of c.take_goal.new.frame)) here (next-posed _ _ frames) (taken-posed _ _ frames)),
     )
 
@@ -284,9 +284,9 @@ run_repeat-loop-frame-preserved-in-Continue-branch-3 g t c =
     let frames = rw (c.in-Some.ensures, c.in-Some-take_goal.ensures) at c.loop-frame.invariant.4 in
     let here = rw c.loop-frame.invariant.1 at c.in-Stays-once.ensures.outcome in (
       rw c.in_ok-resume-in-Stays-once.ensures.ok (resumes _ _ _ _ _ waits here),
-      c.in-Stays-once.ensures.theory ∙ c.loop-frame.invariant.1,
-      c.in-Stays-once.ensures.ready,
-      g.met.L.Leaves.extends_twice _ _ _ c.loop-frame.invariant.3 c.in-Stays-once.ensures.extends,
+      c.in-Stays-once.ensures.kept.theory ∙ c.loop-frame.invariant.1,
+      c.in-Stays-once.ensures.kept.ready,
+      g.met.L.Leaves.extends_twice _ _ _ c.loop-frame.invariant.3 c.in-Stays-once.ensures.kept.extends,
       rw c.in_ok-resume-in-Stays-once.ensures.ok (resumes-posed _ _ here (taken-posed _ _ frames)),
     )
 

@@ -13,7 +13,7 @@ use Rattle.hol_combine.proofs.running.+run.Given as goal
 
 abbrev pub invariant-run_links-loop-link : goal.invariant-run_links-loop-link
 invariant-run_links-loop-link g l =
-    OnSoFar (g.L.Leaves.theory l.fn.leaves) (host_of (g.H.Refiners.refiners l.host) (g.H.Converters.conversions l.host))
+    OnSoFar (g.L.Leaves.theory l.fn.leaves) (host_of (g.H.Refiners.refiners l.setting.host.now) (g.H.Converters.conversions l.setting.host.now))
     (at (g.L.Leaves.store l.fn.leaves) l.fn.fuel.left) (step_of l.fn.step) (links_of l.links)
     (at (g.L.Leaves.store l.leaves) l.fuel.left) (step_of l.step) (links_of (drop l.link-index l.links))
     × (g.L.Leaves.theory l.leaves ≡ g.L.Leaves.theory l.fn.leaves)
@@ -23,7 +23,7 @@ invariant-run_links-loop-link g l =
 
 abbrev pub invariant-run_on_all-loop-goal : goal.invariant-run_on_all-loop-goal
 invariant-run_on_all-loop-goal g l =
-    EachSoFar (g.L.Leaves.theory l.fn.leaves) (host_of (g.H.Refiners.refiners l.host) (g.H.Converters.conversions l.host))
+    EachSoFar (g.L.Leaves.theory l.fn.leaves) (host_of (g.H.Refiners.refiners l.setting.host.now) (g.H.Converters.conversions l.setting.host.now))
     (at (g.L.Leaves.store l.fn.leaves) l.fn.fuel.left) (on_all (tactic_of l.tac) (goals_of l.goals))
     (at (g.L.Leaves.store l.leaves) l.fuel.left) (on_all (tactic_of l.tac) (goals_of (drop l.goal-index l.goals))) (map step_of l.steps.items)
     × (g.L.Leaves.theory l.leaves ≡ g.L.Leaves.theory l.fn.leaves)
@@ -33,7 +33,7 @@ invariant-run_on_all-loop-goal g l =
 
 abbrev pub invariant-run_on_each-loop-i : goal.invariant-run_on_each-loop-i
 invariant-run_on_each-loop-i g l =
-    PairedSoFar (g.L.Leaves.theory l.fn.leaves) (host_of (g.H.Refiners.refiners l.host) (g.H.Converters.conversions l.host))
+    PairedSoFar (g.L.Leaves.theory l.fn.leaves) (host_of (g.H.Refiners.refiners l.setting.host.now) (g.H.Converters.conversions l.setting.host.now))
     (at (g.L.Leaves.store l.fn.leaves) l.fn.fuel.left) (tactics_of l.tacs) (goals_of l.goals)
     (at (g.L.Leaves.store l.leaves) l.fuel.left) (tactics_of (drop l.i l.tacs)) (goals_of (drop l.i l.goals)) (map step_of l.steps.items)
     × (g.L.Leaves.theory l.leaves ≡ g.L.Leaves.theory l.fn.leaves)
@@ -43,7 +43,7 @@ invariant-run_on_each-loop-i g l =
 
 abbrev pub invariant-run_others-loop-other : goal.invariant-run_others-loop-other
 invariant-run_others-loop-other g l =
-    OthersSoFar (g.L.Leaves.theory l.fn.leaves) (host_of (g.H.Refiners.refiners l.host) (g.H.Converters.conversions l.host))
+    OthersSoFar (g.L.Leaves.theory l.fn.leaves) (host_of (g.H.Refiners.refiners l.setting.host.now) (g.H.Converters.conversions l.setting.host.now))
     (at (g.L.Leaves.store l.fn.leaves) l.fn.fuel.left) l.fn.fault (tactics_of l.rest) (goal_of l.goal)
     (at (g.L.Leaves.store l.leaves) l.fuel.left) l.fault (tactics_of (drop l.other-index l.rest))
     × (g.L.Leaves.theory l.leaves ≡ g.L.Leaves.theory l.fn.leaves)
@@ -53,13 +53,13 @@ invariant-run_others-loop-other g l =
 
 abbrev pub invariant-run_repeat-loop-frame : goal.invariant-run_repeat-loop-frame
 invariant-run_repeat-loop-frame g l =
-    Opened (g.L.Leaves.theory l.fn.leaves) (host_of (g.H.Refiners.refiners l.host) (g.H.Converters.conversions l.host)) (tactic_of l.again)
+    Opened (g.L.Leaves.theory l.fn.leaves) (host_of (g.H.Refiners.refiners l.setting.host.now) (g.H.Converters.conversions l.setting.host.now)) (tactic_of l.again)
     (at (g.L.Leaves.store l.fn.leaves) l.fn.fuel.left) (goal_of l.goal) (frames_of l.stack.items)
     (at (g.L.Leaves.store l.leaves) l.fuel.left)
     × (g.L.Leaves.theory l.leaves ≡ g.L.Leaves.theory l.fn.leaves)
     × g.L.Leaves.is_ready l.leaves
     × g.L.Leaves.extends l.fn.leaves l.leaves
-    × FramesPosed (g.L.Leaves.theory l.fn.leaves) (host_of (g.H.Refiners.refiners l.host) (g.H.Converters.conversions l.host)) (g.L.Leaves.store l.leaves) (tactic_of l.again) (frames_of l.stack.items)
+    × FramesPosed (g.L.Leaves.theory l.fn.leaves) (host_of (g.H.Refiners.refiners l.setting.host.now) (g.H.Converters.conversions l.setting.host.now)) (g.L.Leaves.store l.leaves) (tactic_of l.again) (frames_of l.stack.items)
 
 abbrev pub decreases-run_repeat-loop-frame : goal.decreases-run_repeat-loop-frame
 decreases-run_repeat-loop-frame g l = 2 * l.fuel.left + length (frames_of l.stack.items)

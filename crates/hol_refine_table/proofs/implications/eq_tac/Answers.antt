@@ -7,11 +7,11 @@ both_ways-requires-clause-left c = bool-typed c.in-Some.sides.left.now c.ty.resu
 
 pub both_ways-requires-clause-right : goal.both_ways-requires-clause-right
 both_ways-requires-clause-right c =
-    c.requires.sides c.in-Some.sides.left.now c.in-Some.sides.right.now (sym c.in-Some.ensures)
+    c.requires.sides c.in-Some.sides.left.now c.in-Some.sides.right.now (sym c.in-Some.ensures.sides)
     (bool-typed c.in-Some.sides.left.now c.ty.result.now c.ty.ensures (sym c.is_bool.ensures ∙ c.if-not-is_bool.false))
 
 pub both_ways-requires-clause-fits : goal.both_ways-requires-clause-fits
 both_ways-requires-clause-fits c =
     let left = bool-typed c.in-Some.sides.left.now c.ty.result.now c.ty.ensures (sym c.is_bool.ensures ∙ c.if-not-is_bool.false) in
-    implication-fits c.in-Some.sides.left.now c.in-Some.sides.right.now c.args.goal.now.concl (sym c.in-Some.ensures) c.requires.target left
-    (c.requires.sides c.in-Some.sides.left.now c.in-Some.sides.right.now (sym c.in-Some.ensures) left) c.well_formed-2.ensures.within_limits
+    implication-fits c.in-Some.sides.left.now c.in-Some.sides.right.now c.args.goal.now.concl (sym c.in-Some.ensures.sides) c.requires.target left
+    (c.requires.sides c.in-Some.sides.left.now c.in-Some.sides.right.now (sym c.in-Some.ensures.sides) left) c.well_formed-2.ensures.within_limits

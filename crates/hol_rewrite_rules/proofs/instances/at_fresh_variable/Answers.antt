@@ -63,11 +63,11 @@ with_variable_renamed-requires-clause-new c =
     (c.deref.ensures.value ∙ c.in_ok-avoid.ensures.ok) c.in_ok-fresh.ensures.outcome.1 in
     ap is_variable at.term_is
 
-pub with_names-requires-clause-same : goal.with_names-requires-clause-same
-with_names-requires-clause-same c = sym (c.aconv.ensures.same.0 c.if-aconv.true ∙ ap image c.conclusion_of.ensures.value)
+pub renamed-requires-clause-same : goal.renamed-requires-clause-same
+renamed-requires-clause-same c = sym (c.aconv.ensures.same.0 c.if-aconv.true ∙ ap image c.conclusion_of.ensures.value)
 
-pub with_names-requires-clause-formula : goal.with_names-requires-clause-formula
-with_names-requires-clause-formula c =
+pub renamed-requires-clause-formula : goal.renamed-requires-clause-formula
+renamed-requires-clause-formula c =
     let made = c.in_ok-stated.stated in
     let instance = c.in_ok-instance.instance.theorem in
     let same = c.aconv.ensures.same.0 c.if-aconv.true ∙ ap image c.conclusion_of.ensures.value in
@@ -92,8 +92,8 @@ returns-then-aconv-clause-ok c =
     let made_is = is-renamed theory hypotheses premise binder body term at made c.in_ok-stated.ensures.ok in
     let same = c.aconv.ensures.same.0 c.if-aconv.true ∙ ap image c.conclusion_of.ensures.value in
     let fits = nameless_within_limits (nameless_equation bool_type (image made) (image made)) in
-    let derives = c.with_names.ensures.derives (images premise) (shows-renamed theory hypotheses premise binder body term at instance made states same) in
-    named-instance theory hypotheses premise binder body term at c.with_names.result fits instance made states made_is same c.with_names.ensures.names derives
+    let derives = c.renamed.ensures.derives (images premise) (shows-renamed theory hypotheses premise binder body term at instance made states same) in
+    named-instance theory hypotheses premise binder body term at c.renamed.result fits instance made states made_is same c.renamed.ensures.names derives
 
 pub returns-then-aconv-clause-err : goal.returns-then-aconv-clause-err
 returns-then-aconv-clause-err c =
@@ -112,8 +112,8 @@ returns-then-aconv-clause-err c =
     let made = c.in_ok-stated.stated in
     let same = c.aconv.ensures.same.0 c.if-aconv.true ∙ ap image c.conclusion_of.ensures.value in
     let fits = nameless_within_limits (nameless_equation bool_type (image made) (image made)) in
-    let derives = c.with_names.ensures.derives (images premise) (shows-renamed theory hypotheses premise binder body term at instance made states same) in
-    derives-past c.with_names.result fits (are_small premise) (images premise) (image made) (renamed-room theory hypotheses premise binder body term at instance made states same) derives
+    let derives = c.renamed.ensures.derives (images premise) (shows-renamed theory hypotheses premise binder body term at instance made states same) in
+    derives-past c.renamed.result fits (are_small premise) (images premise) (image made) (renamed-room theory hypotheses premise binder body term at instance made states same) derives
 
 pub returns-clause-ok : goal.returns-clause-ok
 returns-clause-ok c =

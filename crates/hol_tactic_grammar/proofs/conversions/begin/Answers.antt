@@ -1,10 +1,24 @@
-use Rattle.std.proofs.Common.{◌+◌, reverse, sym}
+use Rattle.std.proofs.Common.{◌+◌, rules, reverse, sym}
 use Rattle.std.proofs.lemmas.Result.{err_from_is_err_and}
+use Rattle.hol_model.specs.Texts.Token.{Name}
+use Rattle.hol_model_sessions.specs.ConversionGrammar.{conversional_word}
 use Rattle.hol_syntax_grammar.specs.declared.type_reader.ReadError.TheVariants.{Syntax}
-use Rattle.hol_tactic_grammar.specs.Tokens.{behind}
+use Rattle.hol_tactic_grammar.specs.Tokens.{behind, IsAt}
+use Rattle.hol_tactic_grammar.specs.ConversionWords.{conversional_of}
 use Rattle.hol_tactic_grammar.proofs.ConversionLemmas.{no-unit, no-unit-word}
-use Rattle.hol_tactic_grammar.proofs.OpenConversionLemmas.{unread, leaf-taken}
+use Rattle.hol_tactic_grammar.proofs.OpenConversionLemmas.{unread, enclosed-entered, prefixed-entered, leaf-taken}
 use Rattle.hol_tactic_grammar.proofs.conversions.begin.Goals as goal
+
+pub returns-then-is_mark : goal.returns-then-is_mark
+returns-then-is_mark c = λ start wanted.
+    enclosed-entered c.new.result c.new-then-is_mark.result c.enter.result (reverse c.args.places.now.items) (reverse c.enter.new.places.items) c.args.at start c.args.limit c.args.tokens.now
+    c.new.ensures.items c.new-then-is_mark.ensures.items c.if-is_mark.ensures c.enter.ensures wanted
+
+pub returns-in-Some-prefix_named : goal.returns-in-Some-prefix_named
+returns-in-Some-prefix_named c = λ start wanted.
+    let front : IsAt (Name (conversional_word (conversional_of c.in-Some-prefix_named.prefix))) c.args.at c.args.tokens.now = search rules in
+    prefixed-entered c.in-Some-prefix_named.prefix c.enter-in-Some-prefix_named.result (reverse c.args.places.now.items) (reverse c.enter-in-Some-prefix_named.new.places.items) c.args.at start
+    c.args.limit c.args.tokens.now front c.enter-in-Some-prefix_named.ensures wanted
 
 pub returns-in_default : goal.returns-in_default
 returns-in_default c = λ start wanted.

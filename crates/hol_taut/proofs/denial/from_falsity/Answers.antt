@@ -8,7 +8,7 @@ use Rattle.hol_bool.proofs.PreludeSteps.{still_formula, where-no-room}
 use Rattle.hol_equal.proofs.StepLemmas.{continues-twice}
 use Rattle.hol_equal.specs.Sequents.{Gives}
 use Rattle.hol_taut.proofs.LawLemmas.{still_lawful}
-use Rattle.hol_taut_laws.specs.declared.law.Law.TheVariants.{Contr}
+use Rattle.hol_taut_formulas.specs.declared.law.Law.TheVariants.{Contr}
 use Rattle.hol_taut.specs.Proved.{Proves}
 use Rattle.hol_taut.proofs.LeafLemmas.{false-known, false-formula}
 use Rattle.hol_taut.proofs.ShownLemmas.{leads-on}

@@ -10,7 +10,7 @@ use Rattle.hol_taut.specs.declared.facts.Facts.{Nothing}
 use Rattle.hol_model.specs.Propositional.Propositions.{proposition}
 use Rattle.hol_taut.specs.Proved.{Proves}
 use Rattle.hol_taut.specs.Refuted.{AreTold, AreAllFormulas, AreAllSmall}
-use Rattle.hol_taut_laws.specs.declared.law.Law.TheVariants.{NotFalseElim}
+use Rattle.hol_taut_formulas.specs.declared.law.Law.TheVariants.{NotFalseElim}
 use Rattle.hol_taut.proofs.RefutedLemmas.{all-small-nowhere, assumed-proves, memory-past}
 use Rattle.hol_taut.proofs.ShownLemmas.{leads-on}
 use Rattle.hol_taut.proofs.WayLemmas.{small-nowhere}

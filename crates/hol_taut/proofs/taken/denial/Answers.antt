@@ -7,8 +7,8 @@ use Rattle.hol_model.specs.Propositional.Connectives.{fact}
 use Rattle.hol_taut.specs.Shown.{LeadsOn}
 use Rattle.hol_taut.proofs.ShownLemmas.{leads-on, negation-true, negation-false}
 use Rattle.hol_taut.proofs.WayLemmas.{small-nowhere}
-use Rattle.hol_taut_laws.specs.declared.law.Law.TheVariants.{NotFalse, NotTrue}
-use Rattle.hol_taut_laws.specs.declared.law.Law.{Law}
+use Rattle.hol_taut_formulas.specs.declared.law.Law.TheVariants.{NotFalse, NotTrue}
+use Rattle.hol_taut_formulas.specs.declared.law.Law.{Law}
 use Rattle.hol_taut.proofs.taken.denial.Goals as goal
 use Rattle.hol_taut.proofs.taken.denial.Goals.{then-value, else-value}
 

@@ -10,7 +10,7 @@ use Rattle.hol_syntax_grammar.proofs.term_reader.TermReader.join.Goals as goal
 
 pub returns : goal.returns
 returns c = λ opens t h.
-    let state = subst (λ n. IsState c.close.new.self (close (n + 1) opens t).0 (Some (close (n + 1) opens t).1)) c.level_of.ensures (c.in_ok-close.ensures opens t h) in
+    let state = subst (λ n. IsState c.close.new.self (close (n + 1) opens t).0 (Some (close (n + 1) opens t).1)) c.level.ensures.value (c.in_ok-close.ensures opens t h) in
     let i = infix_here c.args.operation in
     let x = close (infix_level i + 1) opens t in
     opens_place c.open_place.result c.close.new.self c.open_place.new.self x.0 (WaitsHere (Right c.args.operation)) (Waits (RightOf i x.1)) c.open_place.ensures

@@ -1,10 +1,9 @@
 use Rattle.std.proofs.Common.{◌+◌, sym, rules}
-use Rattle.std.specs.Prelude.{codes}
 use Rattle.hol_model.specs.declared.symbol.Symbol.TheVariants.{OpenParenthesis}
 use Rattle.hol_model.specs.Texts.Token.{Name, Mark}
 use Rattle.hol_syntax_grammar.specs.Views.{tokens_of}
 use Rattle.hol_tactic_grammar.specs.declared.tactic_reader.Open.TheVariants.{Prefixed, Enclosed}
-use Rattle.hol_tactic_grammar.specs.declared.tactics.Prefix.TheVariants.{Repeat, Try}
+use Rattle.hol_tactic_grammar.specs.TacticWords.{prefix_word}
 use Rattle.hol_tactic_grammar.specs.Tokens.{behind, IsAt}
 use Rattle.hol_tactic_grammar.specs.OpenTactics.{opens_of}
 use Rattle.hol_tactic_grammar.proofs.LeafLemmas.{no-unit, no-unit-word}
@@ -30,21 +29,16 @@ returns-in_default-start_named c =
     unit-fails (opens_of reader) reader.room (tokens_of tokens) (behind c.args.at tokens) c.requires.reading
     (no-unit-word reader.room (behind c.args.at tokens) (behind (c.args.at + 1) tokens) c.in-Some.word.now c.in-Some.ensures.front (sym c.in_default-start_named.ensures))
 
-pub returns-in-OfOther-Repeat : goal.returns-in-OfOther-Repeat
-returns-in-OfOther-Repeat c =
-    let front : IsAt (Name (codes "REPEAT")) c.args.at c.args.tokens.now = search rules in
-    begins c.nest-in-OfOther-Repeat.result c.args.self.now c.nest-in-OfOther-Repeat.new.self (Prefixed Repeat) (Name (codes "REPEAT")) c.args.at c.args.tokens.now (λ room inner opened. opened)
-    (prefix-deep Repeat) c.nest-in-OfOther-Repeat.ensures c.requires.reading front
-
-pub returns-in-OfOther-Try : goal.returns-in-OfOther-Try
-returns-in-OfOther-Try c =
-    let front : IsAt (Name (codes "TRY")) c.args.at c.args.tokens.now = search rules in
-    begins c.nest-in-OfOther-Try.result c.args.self.now c.nest-in-OfOther-Try.new.self (Prefixed Try) (Name (codes "TRY")) c.args.at c.args.tokens.now (λ room inner opened. opened)
-    (prefix-deep Try) c.nest-in-OfOther-Try.ensures c.requires.reading front
+pub returns-in-OfPrefix : goal.returns-in-OfPrefix
+returns-in-OfPrefix c =
+    let prefix = c.in-OfPrefix.prefix in
+    let front : IsAt (Name (prefix_word prefix)) c.args.at c.args.tokens.now = search rules in
+    begins c.nest-in-OfPrefix.result c.args.self.now c.nest-in-OfPrefix.new.self (Prefixed prefix) (Name (prefix_word prefix)) c.args.at c.args.tokens.now (λ room inner opened. opened)
+    (prefix-deep prefix) c.nest-in-OfPrefix.ensures c.requires.reading front
 
 pub returns-in-OfPlain : goal.returns-in-OfPlain
 returns-in-OfPlain c =
-    leaf-goes c.read_plain.result c.read_up_to-in-OfPlain.result c.args.at c.args.self.now c.args.tokens.now c.read_up_to-in-OfPlain.ensures (c.read_plain.ensures c.args.self.now.room)
+    leaf-goes c.read_plain.result c.read_up_to.result c.args.at c.args.self.now c.args.tokens.now c.read_up_to.ensures (c.read_plain.ensures c.args.self.now.room)
     c.requires.reading
 
 pub returns-in-OfNamed : goal.returns-in-OfNamed
@@ -57,12 +51,7 @@ returns-in-OfQuoted c =
     leaf-goes c.read_by_quote.result c.read_up_to-in-OfQuoted.result c.args.at c.args.self.now c.args.tokens.now c.read_up_to-in-OfQuoted.ensures
     (c.read_by_quote.ensures c.args.self.now.room) c.requires.reading
 
-pub returns-in-OfOther-Conv : goal.returns-in-OfOther-Conv
-returns-in-OfOther-Conv c =
-    leaf-goes c.read_conv_tac.result c.read_up_to.result c.args.at c.args.self.now c.args.tokens.now c.read_up_to.ensures c.read_conv_tac.ensures
+pub returns-in-OfOther : goal.returns-in-OfOther
+returns-in-OfOther c =
+    leaf-goes c.read_other.result c.read_up_to-in-OfOther.result c.args.at c.args.self.now c.args.tokens.now c.read_up_to-in-OfOther.ensures c.read_other.ensures
     c.requires.reading
-
-pub returns-in-OfOther-Rewrite : goal.returns-in-OfOther-Rewrite
-returns-in-OfOther-Rewrite c =
-    leaf-goes c.read_rewrite_tac.result c.read_up_to-in-OfOther-Rewrite.result c.args.at c.args.self.now c.args.tokens.now c.read_up_to-in-OfOther-Rewrite.ensures
-    c.read_rewrite_tac.ensures c.requires.reading
