@@ -17,15 +17,15 @@ returns-in_err-right-clause-conjoins c =
     rw (passed_on c.from_residual-in_err-right.result c.in_err-right.field-0.0 c.from_residual-in_err-right.ensures.1) (
       tt,
       λ h k p q room first second fits.
-      c.in_err-right.ensures.derives k q room second (fits-argument room (app (const and_name binary) p) q (conj-both-fits room p q fits)),
+          c.in_err-right.ensures.derives k q room second (fits-argument room (app (const and_name binary) p) q (conj-both-fits room p q fits)),
     )
 
 pub returns-clause-conjoins : goal.returns-clause-conjoins
 returns-clause-conjoins c = (
   c.by_truths.ensures.names c.args.first.now.theorem.conclusion c.args.second.now.theorem.conclusion c.in_ok-left.ensures.names c.in_ok-right.ensures.names,
   λ h k p q room first second fits.
-  let both_fits = conj-both-fits room p q fits in
-  c.by_truths.ensures.derives h k p q room
-  (c.in_ok-left.ensures.derives h p room first (fits-left room (const and_name binary) p q both_fits))
-  (c.in_ok-right.ensures.derives k q room second (fits-argument room (app (const and_name binary) p) q both_fits)) both_fits,
+      let both_fits = conj-both-fits room p q fits in
+      c.by_truths.ensures.derives h k p q room
+      (c.in_ok-left.ensures.derives h p room first (fits-left room (const and_name binary) p q both_fits))
+      (c.in_ok-right.ensures.derives k q room second (fits-argument room (app (const and_name binary) p) q both_fits)) both_fits,
 )

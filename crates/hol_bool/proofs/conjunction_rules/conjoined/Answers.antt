@@ -27,8 +27,8 @@ returns-in_err-both-clause-conjoins c =
     rw (passed_on c.from_residual.result c.in_err-both.field-0.0 c.from_residual.ensures.1) (
       tt,
       λ h k s t room first second fits.
-      connected-past c.in_err-both.field-0.0 and_name a b c.conclusion_of-p.result.now c.conclusion_of-q.result.now one.formula.typed two.formula.typed one.value two.value c.in_err-both.ensures room
-      (conj-both-fits room (image a) (image b) (conj-fits-at room (image a) (image b) s t first.concludes second.concludes fits)),
+          connected-past c.in_err-both.field-0.0 and_name a b c.conclusion_of-p.result.now c.conclusion_of-q.result.now one.formula.typed two.formula.typed one.value two.value c.in_err-both.ensures room
+          (conj-both-fits room (image a) (image b) (conj-fits-at room (image a) (image b) s t first.concludes second.concludes fits)),
     )
 
 pub returns-in_err-stated-clause-conjoins : goal.returns-in_err-stated-clause-conjoins
@@ -41,9 +41,9 @@ returns-in_err-stated-clause-conjoins c =
     rw (passed_on c.from_residual-in_err-stated.result c.in_err-stated.field-0.0 c.from_residual-in_err-stated.ensures.1) (
       tt,
       λ h k s t room first second fits.
-      equation-past c.in_err-stated.field-0.0 b (conjunction a b) c.conclusion_of-q.result.now c.in_ok-both.both two.formula.typed
-      (connected-typed and_name a b one.formula.typed two.formula.typed) two.value both_is c.in_err-stated.ensures room
-      (conj-fits-at room (image a) (image b) s t first.concludes second.concludes fits),
+          equation-past c.in_err-stated.field-0.0 b (conjunction a b) c.conclusion_of-q.result.now c.in_ok-both.both two.formula.typed
+          (connected-typed and_name a b one.formula.typed two.formula.typed) two.value both_is c.in_err-stated.ensures room
+          (conj-fits-at room (image a) (image b) s t first.concludes second.concludes fits),
     )
 
 pub returns-in_err-equation-clause-conjoins : goal.returns-in_err-equation-clause-conjoins
@@ -62,9 +62,9 @@ returns-in_err-equation-clause-conjoins c =
     rw (passed_on c.from_residual-in_err-equation.result c.in_err-equation.field-0.0 c.from_residual-in_err-equation.ensures.1) (
       tt,
       λ h k s t room first second fits.
-      let leads = conj-leads theory a b terms one.formula two.formula terms_are room (conj-fits-at room (image a) (image b) s t first.concludes second.concludes fits) in
-      subst (λ (u : NamedTerm). LeadsTo theory 25 terms room (image a) (image u) → DerivesIf room (Err c.in_err-equation.field-0.0) h (image u)) stated_is
-      (λ l. c.in_err-equation.ensures.derives h (image a) room l (subst (λ (u : Nameless). Shows c.args.first.now.theorem h u) (sym first.concludes) first)) leads,
+          let leads = conj-leads theory a b terms one.formula two.formula terms_are room (conj-fits-at room (image a) (image b) s t first.concludes second.concludes fits) in
+          subst (λ (u : NamedTerm). LeadsTo theory 25 terms room (image a) (image u) → DerivesIf room (Err c.in_err-equation.field-0.0) h (image u)) stated_is
+          (λ l. c.in_err-equation.ensures.derives h (image a) room l (subst (λ (u : Nameless). Shows c.args.first.now.theorem h u) (sym first.concludes) first)) leads,
     )
 
 pub eq_mp_known-requires-clause-fits : goal.eq_mp_known-requires-clause-fits
@@ -93,19 +93,18 @@ returns-clause-conjoins c =
     let stated_is =
     equation-is c.in_ok-stated.stated b (conjunction a b) c.conclusion_of-q.result.now c.in_ok-both.both two.formula.typed
     (connected-typed and_name a b one.formula.typed two.formula.typed) two.value both_is c.in_ok-stated.ensures in
-    let terms_are : terms ≡ at_p_q a b = c.deref.ensures.value ∙ c.in_ok-terms.ensures.ok ∙ (λ i. (one.value i, p) ∷ (two.value i, q) ∷ []) in
-    (
+    let terms_are : terms ≡ at_p_q a b = c.deref.ensures.value ∙ c.in_ok-terms.ensures.ok ∙ (λ i. (one.value i, p) ∷ (two.value i, q) ∷ []) in (
       right-names c.eq_mp_known.result c.in_ok-equation.equation.theorem.conclusion b (conjunction a b) two.formula.typed (c.in_ok-equation.ensures.names ∙ stated_is) c.eq_mp_known.ensures.names,
       λ h k s t room first second fits.
-      let leads = conj-leads theory a b terms one.formula two.formula terms_are room (conj-fits-at room (image a) (image b) s t first.concludes second.concludes fits) in
-      let equation_shown : Shows c.in_ok-equation.equation.theorem h (image (equation b (conjunction a b))) =
-      subst (λ (u : NamedTerm). LeadsTo theory 25 terms room (image a) (image u) → Shows c.in_ok-equation.equation.theorem h (image u)) stated_is
-      (λ l. c.in_ok-equation.ensures.derives h (image a) room l (subst (λ (u : Nameless). Shows c.args.first.now.theorem h u) (sym first.concludes) first)) leads in
-      let at_images : Shows c.in_ok-equation.equation.theorem h (conj_equation (image a) (image b)) =
-      subst (λ (u : Nameless). Shows c.in_ok-equation.equation.theorem h u) (image-equation b (conjunction a b) bool_type two.formula.typed) equation_shown in
-      let path : conj_equation (image a) (image b) ≡ conj_equation s t = λ i. conj_equation (first.concludes i) (second.concludes i) in
-      given-derives room c.eq_mp_known.result (h ++ k) (nameless.conjunction s t)
-      (c.eq_mp_known.ensures.gives h k t (nameless.conjunction s t) (subst (λ (u : Nameless). Shows c.in_ok-equation.equation.theorem h u) path at_images) second),
+          let leads = conj-leads theory a b terms one.formula two.formula terms_are room (conj-fits-at room (image a) (image b) s t first.concludes second.concludes fits) in
+          let equation_shown : Shows c.in_ok-equation.equation.theorem h (image (equation b (conjunction a b))) =
+          subst (λ (u : NamedTerm). LeadsTo theory 25 terms room (image a) (image u) → Shows c.in_ok-equation.equation.theorem h (image u)) stated_is
+          (λ l. c.in_ok-equation.ensures.derives h (image a) room l (subst (λ (u : Nameless). Shows c.args.first.now.theorem h u) (sym first.concludes) first)) leads in
+          let at_images : Shows c.in_ok-equation.equation.theorem h (conj_equation (image a) (image b)) =
+          subst (λ (u : Nameless). Shows c.in_ok-equation.equation.theorem h u) (image-equation b (conjunction a b) bool_type two.formula.typed) equation_shown in
+          let path : conj_equation (image a) (image b) ≡ conj_equation s t = λ i. conj_equation (first.concludes i) (second.concludes i) in
+          given-derives room c.eq_mp_known.result (h ++ k) (nameless.conjunction s t)
+          (c.eq_mp_known.ensures.gives h k t (nameless.conjunction s t) (subst (λ (u : Nameless). Shows c.in_ok-equation.equation.theorem h u) path at_images) second),
     )
 
 pub by_leading_theorem-requires-clause-leads : goal.by_leading_theorem-requires-clause-leads
