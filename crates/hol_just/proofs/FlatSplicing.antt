@@ -37,7 +37,7 @@ Carried-at new trees (place ∷ places) [] carried i within = absurd carried
 Carried-at new trees (place ∷ places) (old ∷ olds) carried zero within = carried.0
 Carried-at new trees (place ∷ places) (old ∷ olds) carried (suc i) within = Carried-at new trees places olds carried.1 i (omega arith)
 
-Carried-cited : (new : ℕ → Justification) (trees : List Justification) (places : List ℕ) (olds : List Justification) → Carried new trees places olds → (i : ℕ) → i < length olds
+pub Carried-cited : (new : ℕ → Justification) (trees : List Justification) (places : List ℕ) (olds : List Justification) → Carried new trees places olds → (i : ℕ) → i < length olds
     → cited trees (slice_index places i) ≡ replace_subs new (cited olds i)
 Carried-cited new trees places olds carried i within = ap (λ found. unwrap_or found (named [])) (Carried-at new trees places olds carried i within)
 
@@ -48,11 +48,11 @@ Carried-parts new trees places olds carried (cite ∷ cites) below =
     λ i. part (Carried-cited new trees places olds carried cite below.0 i) (Carried-parts new trees places olds carried cites below.1 i)
 
 -- the trees of all lines so far, and where the old ones stand among them
-record StandAmong (new : ℕ → Justification) (roots_are : ℕ → Option ℕ) (trees : List Justification) (new_places : List ℕ) (olds : List Justification) : Type 0 where
-  carried : Carried new trees new_places olds
-  at_roots : (i place : ℕ) → roots_are i ≡ Some place → slice_get trees place ≡ Some (new i)
+pub record StandAmong (new : ℕ → Justification) (roots_are : ℕ → Option ℕ) (trees : List Justification) (new_places : List ℕ) (olds : List Justification) : Type 0 where
+  pub carried : Carried new trees new_places olds
+  pub at_roots : (i place : ℕ) → roots_are i ≡ Some place → slice_get trees place ≡ Some (new i)
 
-abbrev Stands : (ℕ → Justification) → (ℕ → Option ℕ) → Redirected → List Justification → Type 0
+abbrev pub Stands : (ℕ → Justification) → (ℕ → Option ℕ) → Redirected → List Justification → Type 0
 Stands new roots_are so_far olds = StandAmong new roots_are (trees_after [] so_far.lines) so_far.new_places olds
 
 -- one line more at the end
@@ -97,7 +97,7 @@ with_replaced-stands new portion_roots subgoals so_far olds (flat_rule rule plac
     with_line new (slice_get portion_roots) so_far olds (flat_rule rule (map (slice_index so_far.new_places) places)) (by_rule rule (cited_parts olds places)) stands
     (ap (by_rule rule) (Carried-parts new (trees_after [] so_far.lines) so_far.new_places olds stands.carried places cites))
 
-redirected-stands : (new : ℕ → Justification) (portion_roots : List ℕ) (subgoals : ℕ) (lines : List FlatLine) (so_far : Redirected) (olds : List Justification) (count : ℕ) →
+pub redirected-stands : (new : ℕ → Justification) (portion_roots : List ℕ) (subgoals : ℕ) (lines : List FlatLine) (so_far : Redirected) (olds : List Justification) (count : ℕ) →
     StandsPast new portion_roots subgoals
     → length olds ≡ count → CiteEarlier count lines → Stands new (slice_get portion_roots) so_far olds
     → Stands new (slice_get portion_roots) (redirected portion_roots subgoals so_far lines) (trees_after olds lines)

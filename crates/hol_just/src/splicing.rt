@@ -25,11 +25,11 @@ enum Replacement {
     Own(Line),
 }
 
-// The lines so far, and the new place of each old line.
+/// The lines so far, and the new place of each old line.
 #[derive(Drop)]
-struct Spliced {
-    lines: Vec<Line>,
-    new_places: Vec<usize>,
+pub(crate) struct Spliced {
+    pub(crate) lines: Vec<Line>,
+    pub(crate) new_places: Vec<usize>,
 }
 
 // The new places of cited lines.
@@ -106,8 +106,8 @@ fn begun(alloc: Global, joined: Joined) -> (Spliced, Vec<usize>)
     (spliced, joined.roots)
 }
 
-// The lines of a justification behind its portions.
-fn redirected(
+/// The lines of a justification behind its portions.
+pub(crate) fn redirected(
     alloc: Global,
     joined: Joined,
     subgoals: usize,
