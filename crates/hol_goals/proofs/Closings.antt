@@ -5,10 +5,13 @@ use Rattle.std.specs.List.{list_all}
 use Rattle.std.proofs.lemmas.Bool.Decides.{same_from_decides}
 use Rattle.hol_model.specs.declared.fault.Fault.{Fault}
 use Rattle.hol_model.specs.declared.fault.Fault.TheVariants.{Memory, InvalidStep, TooLarge, NotAlpha, NotEquation}
-use Rattle.hol_model.specs.Terms.NamedTerm.{NamedTerm}
+use Rattle.hol_model.specs.Terms.NamedTerm.{NamedTerm, combination, equality, type_of}
 use Rattle.hol_model.specs.Terms.Nameless.{Nameless, image}
 use Rattle.hol_model.specs.Logic.Theory.{Theory}
-use Rattle.hol_model.specs.Kernel.Theorem.{Theorem}
+use Rattle.hol_model.specs.Kernel.Theorem.{Theorem, IsTheorem}
+use Rattle.hol_model.specs.Terms.HolType.{HolType}
+use Rattle.hol_kernel.specs.Fits.{EqMpFits}
+use Rattle.hol_kernel.proofs.RuleLemmas.{eq_mp-fits}
 use Rattle.hol_model.specs.Kernel.Outcome.{Answers, unless}
 use Rattle.hol_model.specs.Kernel.Rules.{refl_outcome, eq_mp_outcome}
 use Rattle.hol_model.specs.Texts.Reading.{◌>>=◌}
@@ -78,6 +81,30 @@ closes theory goal theorem same answer passes is answers =
     let whole : closing_outcome theory goal theorem ≡ eq_mp_outcome theory same theorem =
     passed_test theory goal theorem passes ∙ ap (λ (found : Result Theorem Fault). found >>= λ (one : Theorem). eq_mp_outcome theory one theorem) is in
     subst (λ (outcome : Result Theorem Fault). Answers answer outcome) (sym whole) answers
+
+-- ---- the equation and the theorem fit
+
+dest-equation : (a b : NamedTerm) → dest_equation (equation a b) ≡ Some (a, b)
+dest-equation a b = go (type_of a)
+  where
+    go : (ty : Option HolType) → dest_equation (combination (combination (equality ty) a) b) ≡ Some (a, b)
+    go None = refl
+    go (Some ty) = refl
+
+refl-conclusion : (theory : Theory) (term : NamedTerm) (theorem : Theorem) → refl_outcome theory term ≡ Ok theorem → theorem.conclusion ≡ equation term term
+refl-conclusion theory term theorem same =
+    go (first_unknown theory term) (is_within_limits (equation term term)) (record { theory = theory; hypotheses = []; conclusion = equation term term }) refl same
+  where
+    go : (unknown : Option Fault) (fits : Bool) (made : Theorem) → made.conclusion ≡ equation term term → refused unknown (unless fits TooLarge (Ok made)) ≡ Ok theorem
+        → theorem.conclusion ≡ equation term term
+    go None true made is same = let one : theorem ≡ made = cc in ap (λ (t : Theorem). t.conclusion) one ∙ is
+    go None false made is same = cc
+    go (Some fault) fits made is same = cc
+
+pub equation-fits : (theory : Theory) (goal : Goal) (same theorem : Theorem) → IsTheorem same → IsTheorem theorem → refl_outcome theory goal.target ≡ Ok same → achieves goal theorem ≡ true → EqMpFits same theorem
+equation-fits theory goal same theorem is_same is_theorem made passes =
+    eq_mp-fits same theorem is_same is_theorem goal.target goal.target (ap dest_equation (refl-conclusion theory goal.target same made) ∙ dest-equation goal.target goal.target)
+    (sym (passes-achieves goal theorem passes).same_conclusion)
 
 -- ---- what becomes of the journal
 

@@ -12,12 +12,13 @@ use Rattle.hol_model.specs.Goals.Replays.{Store, IsReplay, is_within_depth}
 use Rattle.hol_model.specs.Kernel.Answers.{Is, Then, goes_on, stops}
 use Rattle.hol_model.specs.Goals.GoalStates.{Stage, underway, proved, Proof, Stack, Focus, step_focus, stage_focus, focus_outcome, expanded, closing_outcome, IsStageOf, IsStage, IsExpanded, advanced}
 use Rattle.hol_just.specs.declared.goal.Goal as code_goal
-use Rattle.hol_just.specs.declared.goal.Step as code_step
-use Rattle.hol_just.specs.Steps.{goal_of, goals_of, step_of, tree_of, IsTooDeep}
+use Rattle.hol_just.specs.Steps.{goal_of, goals_of, IsTooDeep}
+use Rattle.hol_just.specs.Growing.{grown_tree}
+use Rattle.hol_goals.specs.declared.stage.GoalState.{GoalState}
 use Rattle.hol_goals.specs.declared.attempt.Attempt.{Attempt}
 use Rattle.hol_goals.specs.declared.expanding.Expansion.{Expansion}
 use Rattle.hol_goals.specs.Refinements.{Refines}
-use Rattle.hol_goals.specs.Stages.{stage_of, proof_at, shown, attempt_of}
+use Rattle.hol_goals.specs.Stages.{stage_of, state_of, proof_at, shown, attempt_of}
 use Rattle.hol_goals.specs.Expansions.{IsProof, Reaches, Finishes, IsExpandedBy}
 use Rattle.hol_goals.proofs.Tops.{some-open}
 
@@ -128,19 +129,19 @@ reached : (theory : Theory) (store : Store) (focus : Focus) (refinement : Step) 
 reached theory store focus refinement stage is = goes_on stage is refl
 
 -- goals are left open
-pub proceeds : (theory : Theory) (store : Store) (refinement : Step) (attempt : Attempt) (new : Stack) (step : code_step.Step) (result : Result Expansion Fault) → 0 < length step.goals.items
-    → Refines (focus_outcome (attempt_of attempt).proof) refinement (Ok step) → Reaches (attempt_of attempt) new (underway (step_of step)) result
+pub proceeds : (theory : Theory) (store : Store) (refinement : Step) (attempt : Attempt) (new : Stack) (step : GoalState) (result : Result Expansion Fault) → 0 < length step.goals.items
+    → Refines (focus_outcome (attempt_of attempt).proof) refinement (Ok step) → Reaches (attempt_of attempt) new (underway (state_of step)) result
     → IsExpandedBy theory store refinement (attempt_of attempt) new result
 proceeds theory store refinement attempt new step (Ok expansion) some refines reaches =
     let focus = refines.0 in
-    let open_stage = stays-open theory store focus.proof.goal (step_of step) (some-open step.goals.items some) refines.3 in
-    let stage : IsStage theory (IsReplay theory store []) focus.proof.goal (expanded focus refinement) (Ok (underway (step_of step))) =
-    subst (λ (s : Step). IsStage theory (IsReplay theory store []) focus.proof.goal s (Ok (underway (step_of step)))) refines.2 open_stage in
+    let open_stage = stays-open theory store focus.proof.goal (state_of step) (some-open step.goals.items some) refines.3 in
+    let stage : IsStage theory (IsReplay theory store []) focus.proof.goal (expanded focus refinement) (Ok (underway (state_of step))) =
+    subst (λ (s : Step). IsStage theory (IsReplay theory store []) focus.proof.goal s (Ok (underway (state_of step)))) refines.2 open_stage in
     record {
       focus = focus;
       found = refines.1;
-      proof = advanced focus.proof (underway (step_of step));
-      expanded = reached theory store focus refinement (underway (step_of step)) stage;
+      proof = advanced focus.proof (underway (state_of step));
+      expanded = reached theory store focus refinement (underway (state_of step)) stage;
       changed = reaches.0 focus.proof (focus-proof (attempt_of attempt).proof focus refines.1);
       tells = reaches.1;
     }
@@ -151,16 +152,16 @@ no-goals [] none = refl
 no-goals (goal ∷ goals) none = cc
 
 -- no goal is left
-pub closes_goal : (theory : Theory) (store : Store) (refinement : Step) (attempt : Attempt) (new : Stack) (step : code_step.Step) (result : Result Expansion Fault) → length step.goals.items ≡ 0
-    → Refines (focus_outcome (attempt_of attempt).proof) refinement (Ok step) → Finishes theory store (goal_of attempt.goal) (tree_of step.just) (attempt_of attempt) new result
+pub closes_goal : (theory : Theory) (store : Store) (refinement : Step) (attempt : Attempt) (new : Stack) (step : GoalState) (result : Result Expansion Fault) → length step.goals.items ≡ 0
+    → Refines (focus_outcome (attempt_of attempt).proof) refinement (Ok step) → Finishes theory store (goal_of attempt.goal) (grown_tree step.just) (attempt_of attempt) new result
     → IsExpandedBy theory store refinement (attempt_of attempt) new result
 closes_goal theory store refinement attempt new step (Ok expansion) none refines finishes =
     let focus = refines.0 in
     let theorem = finishes.0 in
     let goal = focus-goal attempt focus refines.1 in
-    let proof : IsProof theory store focus.proof.goal (tree_of step.just) (Ok theorem) = subst (λ (g : Goal). IsProof theory store g (tree_of step.just) (Ok theorem)) (sym goal) finishes.1 in
-    let closed = none-left theory store focus.proof.goal (step_of step) (Ok (proved theorem)) (no-goals step.goals.items none) refines.3
-    (closed-stage theory store focus.proof.goal (step_of step) theorem proof) in
+    let proof : IsProof theory store focus.proof.goal (grown_tree step.just) (Ok theorem) = subst (λ (g : Goal). IsProof theory store g (grown_tree step.just) (Ok theorem)) (sym goal) finishes.1 in
+    let closed = none-left theory store focus.proof.goal (state_of step) (Ok (proved theorem)) (no-goals step.goals.items none) refines.3
+    (closed-stage theory store focus.proof.goal (state_of step) theorem proof) in
     let stage : IsStage theory (IsReplay theory store []) focus.proof.goal (expanded focus refinement) (Ok (proved theorem)) =
     subst (λ (s : Step). IsStage theory (IsReplay theory store []) focus.proof.goal s (Ok (proved theorem))) refines.2 closed in
     record {
@@ -175,9 +176,9 @@ closes_goal theory store refinement attempt new step (Err fault) none refines (i
 closes_goal theory store refinement attempt new step (Err fault) none refines (inr fails, kept) =
     let focus = refines.0 in
     let goal = focus-goal attempt focus refines.1 in
-    let proof : IsProof theory store focus.proof.goal (tree_of step.just) (Err fault) = subst (λ (g : Goal). IsProof theory store g (tree_of step.just) (Err fault)) (sym goal) fails in
-    let closed = none-left theory store focus.proof.goal (step_of step) (Err fault) (no-goals step.goals.items none) refines.3
-    (refused-stage theory store focus.proof.goal (step_of step) fault proof) in
+    let proof : IsProof theory store focus.proof.goal (grown_tree step.just) (Err fault) = subst (λ (g : Goal). IsProof theory store g (grown_tree step.just) (Err fault)) (sym goal) fails in
+    let closed = none-left theory store focus.proof.goal (state_of step) (Err fault) (no-goals step.goals.items none) refines.3
+    (refused-stage theory store focus.proof.goal (state_of step) fault proof) in
     let stage : IsStage theory (IsReplay theory store []) focus.proof.goal (expanded focus refinement) (Err fault) =
     subst (λ (s : Step). IsStage theory (IsReplay theory store []) focus.proof.goal s (Err fault)) refines.2 closed in
     (inr (inr (record { focus = focus; found = refines.1; fails = stops fault stage refl })), kept)

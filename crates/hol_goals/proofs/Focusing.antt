@@ -8,12 +8,13 @@ use Rattle.hol_model.specs.Goals.Goals.{Goal}
 use Rattle.hol_model.specs.Kernel.Theorem.{Theorem}
 use Rattle.hol_model.specs.Goals.ValidSteps.{Step}
 use Rattle.hol_model.specs.Goals.Splicing.{spliced}
-use Rattle.hol_just.specs.Steps.{goals_of, step_of, tree_of, IsRefused}
-use Rattle.hol_just.specs.declared.goal.Step as code_step
+use Rattle.hol_just.specs.Steps.{goals_of, IsRefused}
+use Rattle.hol_just.specs.Growing.{grown_tree}
 use Rattle.hol_model.specs.Goals.Replays.{is_within_depth}
 use Rattle.hol_model.specs.Goals.GoalStates.{Stage, underway, proved, Proof, untouched, focus_outcome, stage_focus, step_focus}
+use Rattle.hol_goals.specs.declared.stage.GoalState.{GoalState}
 use Rattle.hol_goals.specs.declared.stage.Opening.{Opening}
-use Rattle.hol_goals.specs.Stages.{opening_of}
+use Rattle.hol_goals.specs.Stages.{opening_of, state_of}
 use Rattle.hol_goals.specs.Refinements.{Refines}
 use Rattle.hol_goals.proofs.Tops.{some-open}
 
@@ -25,9 +26,9 @@ pub is_done : (found : Option Proof) (theorem : Theorem) → Some (proved theore
 is_done None theorem same = cc
 is_done (Some proof) theorem same = let one : proved theorem ≡ proof.stage = cc in ap (stage_focus proof) (sym one)
 
-refines-at : (proof : Proof) (step refinement : Step) (goals : List Goal) → 0 < length goals → (result : Result code_step.Step Fault)
-    → IfOk result (λ made. step_of made ≡ spliced step (refinement ∷ map untouched (drop 1 goals)))
-    → IfOk result (λ made. is_within_depth (tree_of made.just) ≡ true)
+refines-at : (proof : Proof) (step refinement : Step) (goals : List Goal) → 0 < length goals → (result : Result GoalState Fault)
+    → IfOk result (λ made. state_of made ≡ spliced step (refinement ∷ map untouched (drop 1 goals)))
+    → IfOk result (λ made. is_within_depth (grown_tree made.just) ≡ true)
     → IfErr result (IsRefused (spliced step (refinement ∷ map untouched (drop 1 goals))).justification)
     → Refines (step_focus proof step goals) refinement result
 refines-at proof step refinement [] some result ok within err = absurd (omega (arith, some))
@@ -37,9 +38,9 @@ refines-at proof step refinement (goal ∷ others) some (Err fault) ok within (i
     inr (inr (record { focus = record { proof = proof; step = step; goal = goal; others = others }; is = refl; large = deep.0; deep = deep.1 }))
 
 pub refines : (found : Option Proof) (opening : Opening) (refinement : Step) → Some (underway (opening_of opening)) ≡ option_map (λ (proof : Proof). proof.stage) found
-    → (result : Result code_step.Step Fault)
-    → IfOk result (λ made. step_of made ≡ spliced (opening_of opening) (refinement ∷ map untouched (drop 1 (goals_of opening.goals.items))))
-    → IfOk result (λ made. is_within_depth (tree_of made.just) ≡ true)
+    → (result : Result GoalState Fault)
+    → IfOk result (λ made. state_of made ≡ spliced (opening_of opening) (refinement ∷ map untouched (drop 1 (goals_of opening.goals.items))))
+    → IfOk result (λ made. is_within_depth (grown_tree made.just) ≡ true)
     → IfErr result (IsRefused (spliced (opening_of opening) (refinement ∷ map untouched (drop 1 (goals_of opening.goals.items)))).justification)
     → Refines (focus_outcome found) refinement result
 refines None opening refinement same result ok within err = cc

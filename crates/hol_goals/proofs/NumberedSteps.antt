@@ -9,7 +9,8 @@ use Rattle.hol_model.specs.Goals.Splicing.{portion_of, splice}
 use Rattle.hol_model.specs.Goals.GoalStates.{untouched, rotated}
 use Rattle.hol_just.specs.declared.goal.Goal as code_goal
 use Rattle.hol_just.specs.declared.goal.Step as code_step
-use Rattle.hol_just.specs.Steps.{goal_of, goals_of, step_of, tree_of, IsRefused}
+use Rattle.hol_just.specs.Steps.{goal_of, goals_of, step_of, IsRefused}
+use Rattle.hol_just.specs.Growing.{grown_tree}
 use Rattle.hol_goals.specs.declared.stage.Opening.{Opening}
 use Rattle.hol_goals.specs.Stages.{opening_of}
 use Rattle.hol_goals.specs.Turning.{numbered, numbered_from, last_of, turning_steps}
@@ -55,22 +56,22 @@ turns-within turns goals within = subst (λ (n : ℕ). turns < n) (sym (length-m
 
 pub turned-opening : (turns : ℕ) (opening : Opening) (goals : List code_goal.Goal) (steps : List code_step.Step) (tree : Justification) → turns < length opening.goals.items
     → goals_of goals ≡ drop turns (goals_of opening.goals.items) ++ take turns (goals_of opening.goals.items) → map step_of steps ≡ turning_steps turns (goals_of opening.goals.items)
-    → tree ≡ splice (tree_of opening.just) (map (λ part. portion_of (step_of part)) steps)
+    → tree ≡ splice (grown_tree opening.just) (map (λ part. portion_of (step_of part)) steps)
     → record { goals = goals_of goals; justification = tree } ≡ rotated turns (opening_of opening)
 turned-opening turns opening goals steps tree within places are is =
-    let whole = is ∙ tree-is turns (tree_of opening.just) opening.goals.items steps are in
+    let whole = is ∙ tree-is turns (grown_tree opening.just) opening.goals.items steps are in
     let one : record { goals = goals_of goals; justification = tree }
     ≡ record {
       goals = drop turns (goals_of opening.goals.items) ++ take turns (goals_of opening.goals.items);
-      justification = splice (tree_of opening.just) (map portion_of (turning_steps turns (goals_of opening.goals.items)));
+      justification = splice (grown_tree opening.just) (map portion_of (turning_steps turns (goals_of opening.goals.items)));
     } = λ i. record { goals = places i; justification = whole i } in
     one ∙ turns-are turns (opening_of opening) (turns-within turns opening.goals.items within)
 
 -- a turned tree is not too deep
 pub turned-fits : (turns : ℕ) (opening : Opening) (steps : List code_step.Step) (fault : Fault) → turns < length opening.goals.items
-    → map step_of steps ≡ turning_steps turns (goals_of opening.goals.items) → IsRefused (splice (tree_of opening.just) (map (λ part. portion_of (step_of part)) steps)) fault → fault ≡ Memory
+    → map step_of steps ≡ turning_steps turns (goals_of opening.goals.items) → IsRefused (splice (grown_tree opening.just) (map (λ part. portion_of (step_of part)) steps)) fault → fault ≡ Memory
 turned-fits turns opening steps fault within are (inl memory) = memory
 turned-fits turns opening steps fault within are (inr deep) =
-    let same = depth-turned turns (goals_of opening.goals.items) (tree_of opening.just) (turns-within turns opening.goals.items within) in
-    let is = rw (tree-is turns (tree_of opening.just) opening.goals.items steps are) at deep.1 in
+    let same = depth-turned turns (goals_of opening.goals.items) (grown_tree opening.just) (turns-within turns opening.goals.items within) in
+    let is = rw (tree-is turns (grown_tree opening.just) opening.goals.items steps are) at deep.1 in
     cc (sym same ∙ is, opening.within)

@@ -1,14 +1,17 @@
 -- The step with its first goal refined.
-use Rattle.std.proofs.Common.{◌≡◌, List, [], ◌∷◌, ◌++◌, map, refl, sym, ◌∙◌, ap, subst}
+use Rattle.std.proofs.Common.{◌≡◌, ℕ, zero, suc, ◌+◌, List, [], ◌∷◌, ◌++◌, length, map, refl, sym, ◌∙◌, ap, subst, arith, zero-add}
+use Rattle.std.proofs.lemmas.List.{length-map}
 use Rattle.hol_model.specs.declared.fault.Fault.{Fault}
 use Rattle.hol_model.specs.Goals.Goals.{Goal}
-use Rattle.hol_model.specs.Goals.Justifications.{Justification}
+use Rattle.hol_model.specs.Goals.Justifications.{Justification, sub}
 use Rattle.hol_model.specs.Goals.ValidSteps.{Step}
-use Rattle.hol_model.specs.Goals.Splicing.{portion_of, splice, spliced, goals_of_steps}
+use Rattle.hol_model.specs.Goals.Splicing.{Portion, replace_subs, numbered_portion, portion_of, spliced, goals_of_steps}
 use Rattle.hol_model.specs.Goals.GoalStates.{untouched}
 use Rattle.hol_just.specs.declared.goal.Goal as code_goal
 use Rattle.hol_just.specs.declared.goal.Step as code_step
-use Rattle.hol_just.specs.Steps.{goals_of, step_of, IsRefused}
+use Rattle.hol_just.specs.Steps.{goal_of, goals_of, step_of, tree_of, IsRefused}
+use Rattle.hol_just.specs.Portions.{in_place_of_first, refined_first}
+use Rattle.hol_goals.proofs.Turns.{same-numbers}
 
 untouched-goals : (goals : List Goal) → goals_of_steps (map untouched goals) ≡ goals
 untouched-goals [] = refl
@@ -18,26 +21,39 @@ pub portions-of : (parts : List code_step.Step) → map (λ part. portion_of (st
 portions-of [] = refl
 portions-of (part ∷ parts) = ap (λ rest. portion_of (step_of part) ∷ rest) (portions-of parts)
 
-justification-is : (step refinement : Step) (others : List Goal) (parts : List code_step.Step) → map step_of parts ≡ refinement ∷ map untouched others
-    → splice step.justification (map (λ part. portion_of (step_of part)) parts) ≡ (spliced step (refinement ∷ map untouched others)).justification
-justification-is step refinement others parts are = ap (splice step.justification) (portions-of parts ∙ ap (map portion_of) are)
+-- the goals that are left as they are have the numbers behind those of the step
+behind : (before : ℕ) (others : List Goal) (i : ℕ) → sub (before + i) ≡ numbered_portion before (map portion_of (map untouched others)) i
+behind before [] i = refl
+behind before (goal ∷ others) zero = refl
+behind before (goal ∷ others) (suc i) =
+    let next : before + suc i ≡ before + 1 + i = omega arith in
+    ap sub next ∙ behind (before + 1) others i
 
-pub spliced_is : (step refinement : Step) (others : List code_goal.Goal) (all : List code_goal.Goal) (begun : List code_goal.Goal)
-    (parts : List code_step.Step) (tree : Justification) (left : List Goal)
-    → goals_of others ≡ left → goals_of begun ≡ refinement.goals → goals_of all ≡ goals_of begun ++ goals_of others → map step_of parts ≡ refinement ∷ map untouched (goals_of others)
-    → tree ≡ splice step.justification (map (λ part. portion_of (step_of part)) parts)
-    → record { goals = goals_of all; justification = tree } ≡ spliced step (refinement ∷ map untouched left)
-spliced_is step refinement others all begun parts tree left places first both are is =
-    let goals : goals_of all ≡ goals_of_steps (refinement ∷ map untouched (goals_of others)) =
-    both ∙ ap (λ l. l ++ goals_of others) first ∙ ap (λ l. refinement.goals ++ l) (sym (untouched-goals (goals_of others))) in
-    let whole = is ∙ justification-is step refinement (goals_of others) parts are in
-    let one : record { goals = goals_of all; justification = tree } ≡ spliced step (refinement ∷ map untouched (goals_of others)) = λ i. record { goals = goals i; justification = whole i } in
-    one ∙ ap (λ l. spliced step (refinement ∷ map untouched l)) places
+in-place : (portion : Portion) (others : List Goal) (i : ℕ) → in_place_of_first portion i ≡ numbered_portion 0 (portion ∷ map portion_of (map untouched others)) i
+in-place portion others zero = sym (same-numbers (λ i. sub (0 + i)) (λ i. ap sub (zero-add i)) portion.justification)
+in-place portion others (suc i) =
+    let same : portion.subgoals + i ≡ 0 + portion.subgoals + i = omega arith in
+    ap sub same ∙ behind (0 + portion.subgoals) others i
 
-pub refused_is : (step refinement : Step) (others : List code_goal.Goal) (parts : List code_step.Step) (left : List Goal) (fault : Fault)
-    → goals_of others ≡ left → map step_of parts ≡ refinement ∷ map untouched (goals_of others)
-    → IsRefused (splice step.justification (map (λ part. portion_of (step_of part)) parts)) fault → IsRefused (spliced step (refinement ∷ map untouched left)).justification fault
-refused_is step refinement others parts left fault places are refused =
-    subst (λ (tree : Justification). IsRefused tree fault)
-    (justification-is step refinement (goals_of others) parts are
-    ∙ ap (λ l. (spliced step (refinement ∷ map untouched l)).justification) places) refused
+-- so a portion in place of the first subgoal is the splice with all other goals left as they are
+first-is-spliced : (step : Step) (refinement : code_step.Step) (count : ℕ) (others : List Goal) → count ≡ length refinement.goals.items
+    → refined_first (record { subgoals = count; justification = tree_of refinement.just }) step.justification ≡ (spliced step (step_of refinement ∷ map untouched others)).justification
+first-is-spliced step refinement count others is =
+    let many = length-map refinement.goals.items goal_of in
+    ap (λ (count : ℕ). refined_first (record { subgoals = count; justification = tree_of refinement.just }) step.justification) (is ∙ sym many)
+    ∙ ap (λ (new : ℕ → Justification). replace_subs new step.justification) (λ i n. in-place (portion_of (step_of refinement)) others n i)
+
+pub refined_is : (step : Step) (refinement : code_step.Step) (count : ℕ) (others all : List code_goal.Goal) (tree : Justification) (left : List Goal) → count ≡ length refinement.goals.items
+    → goals_of others ≡ left → goals_of all ≡ goals_of refinement.goals.items ++ goals_of others
+    → tree ≡ refined_first (record { subgoals = count; justification = tree_of refinement.just }) step.justification
+    → record { goals = goals_of all; justification = tree } ≡ spliced step (step_of refinement ∷ map untouched left)
+refined_is step refinement count others all tree left counted places both is =
+    let goals : goals_of all ≡ goals_of_steps (step_of refinement ∷ map untouched left) =
+    both ∙ ap (λ l. goals_of refinement.goals.items ++ l) (places ∙ sym (untouched-goals left)) in
+    let whole = is ∙ first-is-spliced step refinement count left counted in
+    λ i. record { goals = goals i; justification = whole i }
+
+pub refused_is : (step : Step) (refinement : code_step.Step) (count : ℕ) (others : List Goal) (fault : Fault) → count ≡ length refinement.goals.items
+    → IsRefused (refined_first (record { subgoals = count; justification = tree_of refinement.just }) step.justification) fault
+    → IsRefused (spliced step (step_of refinement ∷ map untouched others)).justification fault
+refused_is step refinement count others fault counted refused = subst (λ (tree : Justification). IsRefused tree fault) (first-is-spliced step refinement count others counted) refused

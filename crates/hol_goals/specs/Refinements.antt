@@ -6,9 +6,11 @@ use Rattle.hol_model.specs.declared.fault.Fault.TheVariants.{Memory, TooLarge}
 use Rattle.hol_model.specs.Goals.Goals.{Goal}
 use Rattle.hol_model.specs.Goals.ValidSteps.{Step}
 use Rattle.hol_just.specs.declared.goal.Goal as code_goal
-use Rattle.hol_just.specs.Steps.{goal_of, step_of, tree_of, IsTooDeep}
+use Rattle.hol_just.specs.Steps.{goal_of, IsTooDeep}
+use Rattle.hol_just.specs.Growing.{grown_tree}
 use Rattle.hol_model.specs.Goals.GoalStates.{Focus, expanded}
-use Rattle.hol_just.specs.declared.goal.Step as code_step
+use Rattle.hol_goals.specs.declared.stage.GoalState.{GoalState}
+use Rattle.hol_goals.specs.Stages.{state_of}
 use Rattle.hol_model.specs.Goals.Replays.{is_within_depth}
 
 -- the goal that a call lends
@@ -28,6 +30,6 @@ pub record IsTooDeepAt (found : Result Focus Fault) (refinement : Step) (fault :
   pub deep : IsTooDeep (expanded focus refinement).justification
 
 -- the proof whose first goal is refined; the refusal where no goal is open, or where it is too deep
-abbrev pub Refines : Result Focus Fault → Step → Result code_step.Step Fault → Type 0
-Refines found refinement (Ok step) = (focus : Focus) × (found ≡ Ok focus) × (step_of step ≡ expanded focus refinement) × (is_within_depth (tree_of step.just) ≡ true)
+abbrev pub Refines : Result Focus Fault → Step → Result GoalState Fault → Type 0
+Refines found refinement (Ok state) = (focus : Focus) × (found ≡ Ok focus) × (state_of state ≡ expanded focus refinement) × (is_within_depth (grown_tree state.just) ≡ true)
 Refines found refinement (Err fault) = (fault ≡ Memory) ⊎ ((found ≡ Err fault) ⊎ IsTooDeepAt found refinement fault)

@@ -7,8 +7,10 @@ use Rattle.hol_journal.specs.Journal.{Recorded}
 use Rattle.hol_model.specs.declared.limits.TheConstants.{KEPT_EXPANSIONS_LIMIT}
 use Rattle.hol_model.specs.Goals.Goals.{Goal}
 use Rattle.hol_model.specs.Goals.ValidSteps.{Step}
-use Rattle.hol_just.specs.Steps.{tree_of, goal_of, goals_of}
+use Rattle.hol_just.specs.Steps.{goal_of, goals_of}
+use Rattle.hol_just.specs.Growing.{grown_tree}
 use Rattle.hol_model.specs.Goals.GoalStates as states
+use Rattle.hol_goals.specs.declared.stage.GoalState.{GoalState}
 use Rattle.hol_goals.specs.declared.stage.Opening.{Opening}
 use Rattle.hol_goals.specs.declared.stage.Stage.{Stage}
 use Rattle.hol_goals.specs.declared.stage.Stage.TheVariants.{Underway, Proved}
@@ -17,8 +19,11 @@ use Rattle.hol_goals.specs.declared.attempt.Change.TheVariants.{Nothing, Forward
 use Rattle.hol_goals.specs.declared.attempt.Attempt.{Attempt}
 use Rattle.hol_goals.specs.declared.stack.Stack.{Stack}
 
+abbrev pub state_of : GoalState → Step
+state_of state = record { goals = goals_of state.goals.items; justification = grown_tree state.just }
+
 abbrev pub opening_of : Opening → Step
-opening_of opening = record { goals = goals_of opening.goals.items; justification = tree_of opening.just }
+opening_of opening = record { goals = goals_of opening.goals.items; justification = grown_tree opening.just }
 
 abbrev pub stage_of : Stage → states.Stage
 stage_of (Underway opening) = states.underway (opening_of opening)

@@ -1,6 +1,7 @@
 // The theorem of a goal, once no goal is open.
 ghost use Rattle.std.specs.Prelude.{◌≡◌};
 ghost use Rattle.hol_model.specs.Kernel.Outcome.{Answers};
+ghost use Rattle.hol_model.specs.Kernel.Theorem.{IsTheorem};
 ghost use Rattle.hol_model.specs.Goals.Achieving.{achieves};
 ghost use Rattle.hol_model.specs.Goals.GoalStates.{closing_outcome};
 ghost use Rattle.hol_just.specs.Steps.{goal_of};
@@ -18,6 +19,15 @@ fn achieves(recorder: &Recorder, theorem: &Rec, goal: &Goal) -> bool
     hol_just_replay::achieves(recorder, theorem, goal)
 }
 
+// Both are theorems. Nothing is computed: the clauses are the law, for the caller's proof.
+fn theorems_hold(first: &Rec, second: &Rec)
+    ensures first { IsTheorem first.now.theorem }
+    ensures second { IsTheorem second.now.theorem }
+{
+    let _first = first.theorem().concl();
+    let _second = second.theorem().concl();
+}
+
 /// The theorem of the goal's own term, from one that achieves the goal: by EQ_MP with REFL of the term. Refused: InvalidStep
 /// where it does not achieve the goal; TooLarge where the equation is; Memory.
 #[tactic(auto, using(crate::proofs::Closings::fails_test, crate::proofs::Closings::fails_refl, crate::proofs::Closings::closes))]
@@ -31,5 +41,6 @@ pub fn closed(recorder: &mut Recorder, goal: &Goal, theorem: &Rec) -> Result<Rec
         return Err(Fault::InvalidStep);
     }
     let same = recorder.infer(Inference::Refl(&goal.concl))?;
-    recorder.infer(Inference::EqMp(&same, theorem))
+    theorems_hold(&same, theorem);
+    recorder.infer_known(Inference::EqMp(&same, theorem))
 }

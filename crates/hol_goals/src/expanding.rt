@@ -4,18 +4,19 @@ ghost use Rattle.hol_model.specs.declared.fault.Fault.TheVariants.{Memory};
 ghost use Rattle.hol_model.specs.Goals.GoalStates as states;
 ghost use Rattle.hol_model.specs.Goals.Replays.{is_within_depth};
 ghost use Rattle.hol_journal.specs.Journal.{Journal, IsMade};
-ghost use Rattle.hol_just.specs.Steps.{goal_of, step_of, tree_of};
+ghost use Rattle.hol_just.specs.Steps.{goal_of, step_of};
+ghost use Rattle.hol_just.specs.Growing.{grown_tree};
 ghost use Rattle.hol_goals.specs.Refinements.{goal_told, goal_in_focus, Refines};
-ghost use Rattle.hol_goals.specs.Stages.{attempt_of};
+ghost use Rattle.hol_goals.specs.Stages.{attempt_of, state_of};
 ghost use Rattle.hol_goals.specs.Expansions.{Reaches, Finishes, IsExpandedBy};
 ghost use Rattle.hol_goals.specs.Made.{StaysMade, IsAttemptMade};
 
 use crate::attempt::Attempt;
 use crate::proving::Prover;
 use crate::refining::refined;
-use crate::stage::{Opening, Stage};
+use crate::stage::{GoalState, Opening, Stage};
 use hol_journal::Rec;
-use hol_just::{Goal, Just, Step};
+use hol_just::{Goal, Growing, Step};
 use hol_model::Fault;
 use std::alloc::Global;
 
@@ -41,9 +42,9 @@ impl Attempt {
         }
     }
 
-    // The step to the open goals with the first of them refined.
+    // The open goals with the first of them refined.
     #[tactic(auto, using(crate::proofs::Focusing::nothing_set, crate::proofs::Focusing::is_done))]
-    fn refined(&self, alloc: Global, refinement: Step) -> Result<Step, Fault>
+    fn refined(&self, alloc: Global, refinement: Step) -> Result<GoalState, Fault>
         ensures { Refines (states.focus_outcome (attempt_of self.now).proof) (step_of refinement) result }
     {
         let Some(stage) = self.stage() else {
@@ -56,13 +57,13 @@ impl Attempt {
     }
 
     // Keeps the goals that are left open as the next stage.
-    fn proceed(&mut self, step: Step) -> Result<Expansion, Fault>
-        requires open { 0 < length step.goals.items }
-        requires within { is_within_depth (tree_of step.just) ≡ true }
-        ensures reaches { Reaches (attempt_of self.old) (attempt_of self.new) (states.underway (step_of step)) result }
+    fn proceed(&mut self, state: GoalState) -> Result<Expansion, Fault>
+        requires open { 0 < length state.goals.items }
+        requires within { is_within_depth (grown_tree state.just) ≡ true }
+        ensures reaches { Reaches (attempt_of self.old) (attempt_of self.new) (states.underway (state_of state)) result }
         ensures made { (journal : Journal) → IsAttemptMade journal self.old → IsAttemptMade journal self.new }
     {
-        let Step { goals, just } = step;
+        let GoalState { goals, just } = state;
         let count = goals.len();
         self.advance(Stage::Underway(Opening { goals, just }))?;
         Ok(Expansion::Open(count))
@@ -83,10 +84,11 @@ impl Attempt {
         &mut self,
         alloc: Global,
         prover: &mut P,
-        just: &Just,
+        just: &Growing,
     ) -> Result<Expansion, Fault>
         requires ready { P.is_ready prover.old }
-        ensures outcome { Finishes (P.theory prover.old) (P.store prover.old) (goal_of self.old.goal) (tree_of just.now) (attempt_of self.old) (attempt_of self.new) result }
+        requires within { is_within_depth (grown_tree just.now) ≡ true }
+        ensures outcome { Finishes (P.theory prover.old) (P.store prover.old) (goal_of self.old.goal) (grown_tree just.now) (attempt_of self.old) (attempt_of self.new) result }
         ensures theory { P.theory prover.new ≡ P.theory prover.old }
         ensures store { P.store prover.new ≡ P.store prover.old }
         ensures ready { P.is_ready prover.new }
@@ -94,7 +96,8 @@ impl Attempt {
         ensures extends { P.extends prover.old prover.new }
         ensures made { IsAttemptMade (P.journal prover.old) self.old → IsAttemptMade (P.journal prover.new) self.new }
     {
-        let theorem = prover.prove(alloc, &self.goal, just)?;
+        let whole = just.whole(alloc)?;
+        let theorem = prover.prove(alloc, &self.goal, &whole)?;
         self.conclude(alloc, theorem)
     }
 
@@ -114,10 +117,10 @@ impl Attempt {
         ensures extends { P.extends prover.old prover.new }
         ensures made { IsAttemptMade (P.journal prover.old) self.old → IsAttemptMade (P.journal prover.new) self.new }
     {
-        let step = self.refined(alloc, refinement)?;
-        if step.goals.is_empty() {
-            return self.finish(alloc, prover, &step.just);
+        let state = self.refined(alloc, refinement)?;
+        if state.goals.is_empty() {
+            return self.finish(alloc, prover, &state.just);
         }
-        self.proceed(step)
+        self.proceed(state)
     }
 }

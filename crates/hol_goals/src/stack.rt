@@ -17,7 +17,7 @@ use crate::stage::{Opening, Stage};
 use hol_combine::refine_goal;
 use hol_host::Refiners;
 use hol_journal::{Rec, Recorder};
-use hol_just::{Goal, Step, sub};
+use hol_just::{Goal, Growing, Step, sub};
 use hol_kernel::Thm;
 use hol_model::Fault;
 use hol_tactic_exprs::{Fuel, Tac};
@@ -52,7 +52,7 @@ fn untouched(alloc: Global, term: &Term) -> Result<Stage, Fault>
     goals.push(goal_of_term(alloc, term)?)?;
     Ok(Stage::Underway(Opening {
         goals,
-        just: sub(alloc, 0)?,
+        just: Growing::new(alloc, sub(alloc, 0)?)?,
     }))
 }
 

@@ -8,7 +8,7 @@ ghost use Rattle.hol_goals.specs.Turning.{numbered, numbered_from, last_of, turn
 
 use crate::copying::{append_goals, append_untouched};
 use crate::stage::Opening;
-use hol_just::{Goal, Step, splice, sub};
+use hol_just::{Goal, Growing, Step, splice, sub};
 use hol_model::Fault;
 use std::alloc::Global;
 
@@ -84,6 +84,7 @@ pub(crate) fn turned(alloc: Global, opening: &Opening, turns: usize) -> Result<O
 {
     let goals = turned_goals(alloc, &opening.goals, turns)?;
     let steps = turning_steps(alloc, &opening.goals, turns)?;
-    let just = splice(alloc, &opening.just, &steps)?;
+    let just = splice(alloc, &opening.just.whole(alloc)?, &steps)?;
+    let just = Growing::new(alloc, just)?;
     Ok(Opening { goals, just })
 }
