@@ -1,6 +1,7 @@
 -- What `thm` asks for, and commands by their words and what follows them.
 use Rattle.std.proofs.Common.{◌≡◌, ◌≢◌, ℕ, ◌+◌, ◌-◌, ◌*◌, ◌<◌, ◌≤◌, suc, arith, rules, drop-cons, List, [], ◌∷◌, length, get_or, take, drop}
 use Rattle.std.proofs.Common.{refl, sym, ◌∙◌, ap, subst, Bool, true, false, if◌then◌else◌, map, Some, Result, Ok, Err, Vec, Global}
+use Rattle.std.specs.Str.{bytes_eq}
 use Rattle.std.proofs.lemmas.Slice.Eq.{bytes_eq-Decides}
 use Rattle.std.proofs.lemmas.List.{take_rest}
 use Rattle.hol_model.specs.declared.limits.TheConstants.{EXPRESSION_NESTING_LIMIT}
