@@ -85,7 +85,7 @@ word-found {T} word_of (entry ∷ entries) word meaning have found = by (bytes_e
 
 kind-command : (word : List ℕ) (kind : CommandKind) → command_kind_of word ≡ Some kind → word ≡ command_word kind
 kind-command word kind found =
-    word-found command_word (map (λ entry. (entry.0.now, entry.1)) COMMANDS) word kind (refl, refl, refl, refl, refl, refl, refl, refl, refl, refl, refl, refl, tt) found
+    word-found command_word (map (λ entry. (entry.0.now, entry.1)) COMMANDS) word kind (refl, (refl, (refl, (refl, (refl, (refl, (refl, (refl, (refl, (refl, (refl, (refl, tt)))))))))))) found
 
 -- ---- commands
 
