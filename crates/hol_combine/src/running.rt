@@ -34,7 +34,8 @@ fn run_host<H: Refiners, L: Leaves>(
     fuel: &mut Fuel,
 ) -> Result<Step, Fault>
     requires ready { L.is_ready leaves.old }
-    ensures outcome { HostRefines (H.refiners setting.now.host.now) (H.conversions setting.now.host.now) (L.theory leaves.old) (L.store leaves.old) fuel.old.left name.now goal.now result (L.store leaves.new) fuel.new.left }
+    ensures outcome { HostRefines (H.refiners setting.now.host.now) (H.conversions setting.now.host.now) (L.theory leaves.old) (L.store leaves.old)
+        fuel.old.left name.now goal.now result (L.store leaves.new) fuel.new.left }
     ensures kept { IsKept (L.theory leaves.old) (L.theory leaves.new) (L.is_ready leaves.new) (L.extends leaves.old leaves.new) }
 {
     if !fuel.spend() {
@@ -65,7 +66,8 @@ pub(crate) fn run<H: Refiners, L: Leaves>(
 ) -> Result<Step, Fault>
     requires ready { L.is_ready leaves.old }
     requires posed { IsPosed (L.theory leaves.old) (L.store leaves.old) (tactic_of tac.now) (goal_of goal.now) }
-    ensures outcome { Refines (H.refiners setting.now.host.now) (H.conversions setting.now.host.now) (L.theory leaves.old) (L.store leaves.old) fuel.old.left tac.now goal.now result (L.store leaves.new) fuel.new.left }
+    ensures outcome { Refines (H.refiners setting.now.host.now) (H.conversions setting.now.host.now) (L.theory leaves.old) (L.store leaves.old)
+        fuel.old.left tac.now goal.now result (L.store leaves.new) fuel.new.left }
     ensures kept { IsKept (L.theory leaves.old) (L.theory leaves.new) (L.is_ready leaves.new) (L.extends leaves.old leaves.new) }
 {
     match tac {
@@ -111,7 +113,8 @@ fn run_once<H: Refiners, L: Leaves>(
 ) -> Once
     requires ready { L.is_ready leaves.old }
     requires posed { IsPosed (L.theory leaves.old) (L.store leaves.old) (tactic_of again.now) (goal_of goal.now) }
-    ensures outcome { OnceRefines (H.refiners setting.now.host.now) (H.conversions setting.now.host.now) (L.theory leaves.old) (L.store leaves.old) fuel.old.left again.now goal.now result (L.store leaves.new) fuel.new.left }
+    ensures outcome { OnceRefines (H.refiners setting.now.host.now) (H.conversions setting.now.host.now) (L.theory leaves.old) (L.store leaves.old)
+        fuel.old.left again.now goal.now result (L.store leaves.new) fuel.new.left }
     ensures kept { IsKept (L.theory leaves.old) (L.theory leaves.new) (L.is_ready leaves.new) (L.extends leaves.old leaves.new) }
 {
     match run(setting, again, goal, leaves, fuel) {
@@ -139,7 +142,8 @@ fn run_repeat<H: Refiners, L: Leaves>(
 ) -> Result<Step, Fault>
     requires ready { L.is_ready leaves.old }
     requires posed { IsPosed (L.theory leaves.old) (L.store leaves.old) (tactic_of again.now) (goal_of goal.now) }
-    ensures outcome { Repeats (H.refiners setting.now.host.now) (H.conversions setting.now.host.now) (L.theory leaves.old) (L.store leaves.old) fuel.old.left again.now goal.now result (L.store leaves.new) fuel.new.left }
+    ensures outcome { Repeats (H.refiners setting.now.host.now) (H.conversions setting.now.host.now) (L.theory leaves.old) (L.store leaves.old)
+        fuel.old.left again.now goal.now result (L.store leaves.new) fuel.new.left }
     ensures kept { IsKept (L.theory leaves.old) (L.theory leaves.new) (L.is_ready leaves.new) (L.extends leaves.old leaves.new) }
 {
     let mut stack = Vec::new(setting.alloc);
@@ -186,7 +190,8 @@ fn run_others<H: Refiners, L: Leaves>(
 ) -> Result<Step, Fault>
     requires ready { L.is_ready leaves.old }
     requires posed { ArePosed (L.theory leaves.old) (L.store leaves.old) (λ theory. HaveKnownWitnesses theory (tactics_of rest.now)) (goal_of goal.now ∷ []) }
-    ensures outcome { GoesOn (H.refiners setting.now.host.now) (H.conversions setting.now.host.now) (L.theory leaves.old) (L.store leaves.old) fuel.old.left fault rest.now goal.now result (L.store leaves.new) fuel.new.left }
+    ensures outcome { GoesOn (H.refiners setting.now.host.now) (H.conversions setting.now.host.now) (L.theory leaves.old) (L.store leaves.old)
+        fuel.old.left fault rest.now goal.now result (L.store leaves.new) fuel.new.left }
     ensures kept { IsKept (L.theory leaves.old) (L.theory leaves.new) (L.is_ready leaves.new) (L.extends leaves.old leaves.new) }
 {
     let mut fault = fault;
@@ -213,7 +218,8 @@ fn run_links<H: Refiners, L: Leaves>(
 ) -> Result<Step, Fault>
     requires ready { L.is_ready leaves.old }
     requires posed { ArePosed (L.theory leaves.old) (L.store leaves.old) (λ theory. HaveKnownWitnessesInLinks theory (links_of links.now)) (goals_of step.goals.items) }
-    ensures outcome { Chains (H.refiners setting.now.host.now) (H.conversions setting.now.host.now) (L.theory leaves.old) (L.store leaves.old) fuel.old.left step links.now result (L.store leaves.new) fuel.new.left }
+    ensures outcome { Chains (H.refiners setting.now.host.now) (H.conversions setting.now.host.now) (L.theory leaves.old) (L.store leaves.old)
+        fuel.old.left step links.now result (L.store leaves.new) fuel.new.left }
     ensures kept { IsKept (L.theory leaves.old) (L.theory leaves.new) (L.is_ready leaves.new) (L.extends leaves.old leaves.new) }
 {
     let mut step = step;
@@ -236,7 +242,8 @@ fn run_link<H: Refiners, L: Leaves>(
 ) -> Result<Vec<Step>, Fault>
     requires ready { L.is_ready leaves.old }
     requires posed { ArePosed (L.theory leaves.old) (L.store leaves.old) (λ theory. HasKnownWitnessesInLink theory (link_of link.now)) (goals_of goals.now) }
-    ensures outcome { LinkRefines (H.refiners setting.now.host.now) (H.conversions setting.now.host.now) (L.theory leaves.old) (L.store leaves.old) fuel.old.left link.now goals.now result (L.store leaves.new) fuel.new.left }
+    ensures outcome { LinkRefines (H.refiners setting.now.host.now) (H.conversions setting.now.host.now) (L.theory leaves.old) (L.store leaves.old)
+        fuel.old.left link.now goals.now result (L.store leaves.new) fuel.new.left }
     ensures kept { IsKept (L.theory leaves.old) (L.theory leaves.new) (L.is_ready leaves.new) (L.extends leaves.old leaves.new) }
 {
     match link {
@@ -264,7 +271,8 @@ fn run_on_all<H: Refiners, L: Leaves>(
 ) -> Result<Vec<Step>, Fault>
     requires ready { L.is_ready leaves.old }
     requires posed { ArePosed (L.theory leaves.old) (L.store leaves.old) (λ theory. HasKnownWitnesses theory (tactic_of tac.now)) (goals_of goals.now) }
-    ensures outcome { AllRefine (H.refiners setting.now.host.now) (H.conversions setting.now.host.now) (L.theory leaves.old) (L.store leaves.old) fuel.old.left tac.now goals.now result (L.store leaves.new) fuel.new.left }
+    ensures outcome { AllRefine (H.refiners setting.now.host.now) (H.conversions setting.now.host.now) (L.theory leaves.old) (L.store leaves.old)
+        fuel.old.left tac.now goals.now result (L.store leaves.new) fuel.new.left }
     ensures kept { IsKept (L.theory leaves.old) (L.theory leaves.new) (L.is_ready leaves.new) (L.extends leaves.old leaves.new) }
 {
     let mut steps = Vec::new(setting.alloc);
@@ -287,7 +295,8 @@ fn run_on_each<H: Refiners, L: Leaves>(
     requires ready { L.is_ready leaves.old }
     requires posed { ArePosed (L.theory leaves.old) (L.store leaves.old) (λ theory. HaveKnownWitnesses theory (tactics_of tacs.now)) (goals_of goals.now) }
     requires lengths { length tacs.now ≡ length goals.now }
-    ensures outcome { EachRefines (H.refiners setting.now.host.now) (H.conversions setting.now.host.now) (L.theory leaves.old) (L.store leaves.old) fuel.old.left tacs.now goals.now result (L.store leaves.new) fuel.new.left }
+    ensures outcome { EachRefines (H.refiners setting.now.host.now) (H.conversions setting.now.host.now) (L.theory leaves.old) (L.store leaves.old)
+        fuel.old.left tacs.now goals.now result (L.store leaves.new) fuel.new.left }
     ensures kept { IsKept (L.theory leaves.old) (L.theory leaves.new) (L.is_ready leaves.new) (L.extends leaves.old leaves.new) }
 {
     let mut steps = Vec::new(setting.alloc);
