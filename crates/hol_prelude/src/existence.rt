@@ -7,20 +7,20 @@ use hol_prelude_derivations::formulas::{
     ALWAYS, BOOL, EACH_IMP_Q, EXISTS_BODY, IMP, PRED, Q, Q_EACH, QUANTIFIER, X, X_PRED_X_IMP_Q,
 };
 use hol_prelude_derivations::logic::{ALWAYS_X, FORALL_PRED_IS};
-use hol_prelude_derivations::numbers;
 use hol_prelude_derivations::rule::PairRule::{EqMp, Trans};
 use hol_prelude_derivations::rule::TermRule::{Assume, Beta};
 use hol_prelude_derivations::sketch::TermSketch;
 use hol_prelude_derivations::sketch::TermSketch::{Combination, Constant, Equation};
+use hol_prelude_derivations::{numbers, unfolded};
 use hol_prelude_laws::choice::PRED_X_HOLDS;
 use hol_prelude_laws::laws::{EXISTS_PRED_IS, FROM_TRUE, SPECIALIZES};
 use hol_prelude_laws::{discharge, generalize, specialize};
 
 // |- (?) P <=> (!q. (!x. P x ==> q) ==> q): EXISTS_DEF at P
-pub(crate) const EXISTS_UNFOLDED: Derivation = Pair(
-    Trans,
-    &ApThm(&Earlier(numbers::EXISTS_DEF), &PRED),
-    &Term(Beta, &Combination(&EXISTS_BODY, &PRED)),
+pub(crate) const EXISTS_UNFOLDED: Derivation = unfolded!(
+    Earlier(numbers::EXISTS_DEF),
+    EXISTS_BODY,
+    PRED
 );
 
 // P x |- (?) P

@@ -2,28 +2,23 @@
 use crate::laws::{P_OR_Q_FROM, P_OR_Q_IS};
 use crate::{detach, discharge, generalize, specialize};
 use hol_prelude_derivations::derivation::Derivation;
-use hol_prelude_derivations::derivation::Derivation::{ApThm, Earlier, Pair, Sym, Term};
+use hol_prelude_derivations::derivation::Derivation::{Earlier, Pair, Sym, Term};
 use hol_prelude_derivations::formulas::{
     BINARY, BOOL, OR_BODY, OR_P, P, P_IMP_R, Q, Q_CASE_R, Q_IMP_R, R, R_BOTH_CASES,
 };
-use hol_prelude_derivations::numbers;
-use hol_prelude_derivations::rule::PairRule::{EqMp, Trans};
-use hol_prelude_derivations::rule::TermRule::{Assume, Beta};
+use hol_prelude_derivations::rule::PairRule::EqMp;
+use hol_prelude_derivations::rule::TermRule::Assume;
 use hol_prelude_derivations::sketch::TermSketch;
 use hol_prelude_derivations::sketch::TermSketch::{Combination, Constant};
 use hol_prelude_derivations::truth::ASSUME_P;
+use hol_prelude_derivations::{numbers, unfolded};
 
 // |- p \/ q <=> (!r. (p ==> r) ==> (q ==> r) ==> r): OR_DEF at p and q
-const OR_AT_P_Q: Derivation = ApThm(
-    &Pair(
-        Trans,
-        &ApThm(&Earlier(numbers::OR_DEF), &P),
-        &Term(Beta, &Combination(&OR_BODY, &P)),
-    ),
-    &Q,
+pub const OR_UNFOLDED: Derivation = unfolded!(
+    unfolded!(Earlier(numbers::OR_DEF), OR_BODY, P),
+    OR_P,
+    Q
 );
-
-pub const OR_UNFOLDED: Derivation = Pair(Trans, &OR_AT_P_Q, &Term(Beta, &Combination(&OR_P, &Q)));
 
 // |- (!r. (p ==> r) ==> (q ==> r) ==> r) <=> p \/ q
 pub const OR: TermSketch = Constant("\\/", &BINARY);
