@@ -1,5 +1,6 @@
-use Rattle.std.proofs.Common.{◌≡◌, refl}
+use Rattle.std.proofs.Common.{◌≡◌, refl, ap, Err}
 use Rattle.std.proofs.lemmas.Result.{err_from_is_err_and}
+use Rattle.hol_model.specs.declared.fault.Fault.{Fault}
 use Rattle.hol_script_manager.specs.Session.{session_tools}
 use Rattle.hol_script.specs.Runs.{source_use, sink_use, counts_of}
 use Rattle.hol_script.specs.Conversations.{at_end}
@@ -18,13 +19,23 @@ returns-in_err-progress-clause-closes g c =
     (g.R.Source.remaining c.answer_input.new.reader)
     (sink_use (g.W.Sink.contents c.args.writer.now) (g.W.Sink.contents c.answer_input.new.writer) (g.W.Sink.has_failed c.answer_input.new.writer) (c.answer_input.new.writer ≡ c.args.writer.now))
     (sink_use (g.L.Sink.contents c.args.log.now) (g.L.Sink.contents c.args.log.now) (g.L.Sink.has_failed c.args.log.now) (c.args.log.now ≡ c.args.log.now))
-    c.in_err-progress.field-0.0 c.in_err-progress.ensures.err refl)
+    c.in_err-progress.field-0.0 c.in_err-progress.ensures.err.early refl)
 
 pub returns-in_err-progress-clause-told_front : goal.returns-in_err-progress-clause-told_front
 returns-in_err-progress-clause-told_front g c =
     let p = err_from_is_err_and c.from_residual.result c.from_residual.ensures.1 in
     rw p.1
-    (front-walked (session_tools (g.H.Refiners.refiners c.args.host.now) (g.H.Converters.conversions c.args.host.now)) c.in_err-progress.ensures.front)
+    (front-walked (session_tools (g.H.Refiners.refiners c.args.host.now) (g.H.Converters.conversions c.args.host.now)) c.in_err-progress.ensures.err.front)
+
+pub returns-in_err-progress-clause-reader_told : goal.returns-in_err-progress-clause-reader_told
+returns-in_err-progress-clause-reader_told g c =
+    let p = err_from_is_err_and c.from_residual.result c.from_residual.ensures.1 in
+    rw (p.1, p.2) (λ failed. ap (λ (fault : Fault). Err fault) (c.in_err-progress.ensures.err.reader failed))
+
+pub returns-in_err-progress-clause-writer_told : goal.returns-in_err-progress-clause-writer_told
+returns-in_err-progress-clause-writer_told g c =
+    let p = err_from_is_err_and c.from_residual.result c.from_residual.ensures.1 in
+    rw (p.1, p.2) (λ failed. ap (λ (fault : Fault). Err fault) (c.in_err-progress.ensures.err.writer failed))
 
 pub write_log-logged-requires-clause-named : goal.write_log-logged-requires-clause-named
 write_log-logged-requires-clause-named g c = run-named c.in_ok-progress.progress c.in_ok-progress.ensures.ok.finishes
