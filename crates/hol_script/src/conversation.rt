@@ -120,12 +120,6 @@ pub fn converse<R: Source, W: Sink, L: Sink, H: Refiners>(
     ensures manager { IfOk result (λ ended. IsManager ended.progress.manager) }
 {
     let progress = answer_input(alloc, reader, writer, wants_log, host)?;
-    if !wants_log {
-        return Ok(Ended {
-            progress,
-            logged: Ok(()),
-        });
-    }
-    let logged = write_log(alloc, &progress, log);
+    let logged = write_log(alloc, &progress, log, wants_log);
     Ok(Ended { progress, logged })
 }
