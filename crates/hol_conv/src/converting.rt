@@ -130,7 +130,8 @@ impl<L: Leaves> Level<'_, L> {
         fuel: &mut Fuel,
     ) -> Answer
         requires asked { IsAsked (L.is_ready self.now.leaves.now) library.old t.now }
-        ensures converts { AnswersOver library.old (L.hosts self.now.leaves.now) self.now.depth fuel.old.left (orelsec_of (L.means self.now.leaves.now) first.now others.now) t.now result fuel.new.left }
+        ensures converts { AnswersOver library.old (L.hosts self.now.leaves.now) self.now.depth fuel.old.left
+            (orelsec_of (L.means self.now.leaves.now) first.now others.now) t.now result fuel.new.left }
         ensures makes { MakesAnswer library.old library.new t.now result }
     {
         let mut fault = match self.converted(library, first, t, fuel) {
@@ -153,7 +154,8 @@ impl<L: Leaves> Level<'_, L> {
     #[cycle(converted)]
     fn repeatc(&self, library: &mut Library, conv: &Conv, t: &Term, fuel: &mut Fuel) -> Answer
         requires asked { IsAsked (L.is_ready self.now.leaves.now) library.old t.now }
-        ensures converts { AnswersOver library.old (L.hosts self.now.leaves.now) self.now.depth fuel.old.left (conversions.repeatc (stands_for (L.means self.now.leaves.now) conv.now)) t.now result fuel.new.left }
+        ensures converts { AnswersOver library.old (L.hosts self.now.leaves.now) self.now.depth fuel.old.left
+            (conversions.repeatc (stands_for (L.means self.now.leaves.now) conv.now)) t.now result fuel.new.left }
         ensures last { IsFinal (answered library.old.recorder.theory t.now result) }
         ensures makes { MakesAnswer library.old library.new t.now result }
     {
@@ -187,7 +189,8 @@ impl<L: Leaves> Level<'_, L> {
     #[cycle(converted)]
     fn rand_conv(&self, library: &mut Library, conv: &Conv, t: &Term, fuel: &mut Fuel) -> Answer
         requires asked { IsAsked (L.is_ready self.now.leaves.now) library.old t.now }
-        ensures converts { AnswersOver library.old (L.hosts self.now.leaves.now) self.now.depth fuel.old.left (conversions.rand_conv (stands_for (L.means self.now.leaves.now) conv.now)) t.now result fuel.new.left }
+        ensures converts { AnswersOver library.old (L.hosts self.now.leaves.now) self.now.depth fuel.old.left
+            (conversions.rand_conv (stands_for (L.means self.now.leaves.now) conv.now)) t.now result fuel.new.left }
         ensures makes { MakesAnswer library.old library.new t.now result }
     {
         let (function, argument) = combination(t, self.depth)?;
@@ -199,7 +202,8 @@ impl<L: Leaves> Level<'_, L> {
     #[cycle(converted)]
     fn rator_conv(&self, library: &mut Library, conv: &Conv, t: &Term, fuel: &mut Fuel) -> Answer
         requires asked { IsAsked (L.is_ready self.now.leaves.now) library.old t.now }
-        ensures converts { AnswersOver library.old (L.hosts self.now.leaves.now) self.now.depth fuel.old.left (conversions.rator_conv (stands_for (L.means self.now.leaves.now) conv.now)) t.now result fuel.new.left }
+        ensures converts { AnswersOver library.old (L.hosts self.now.leaves.now) self.now.depth fuel.old.left
+            (conversions.rator_conv (stands_for (L.means self.now.leaves.now) conv.now)) t.now result fuel.new.left }
         ensures makes { MakesAnswer library.old library.new t.now result }
     {
         let (function, argument) = combination(t, self.depth)?;
@@ -211,7 +215,8 @@ impl<L: Leaves> Level<'_, L> {
     #[cycle(converted)]
     fn abs_conv(&self, library: &mut Library, conv: &Conv, t: &Term, fuel: &mut Fuel) -> Answer
         requires asked { IsAsked (L.is_ready self.now.leaves.now) library.old t.now }
-        ensures converts { AnswersOver library.old (L.hosts self.now.leaves.now) self.now.depth fuel.old.left (conversions.abs_conv (stands_for (L.means self.now.leaves.now) conv.now)) t.now result fuel.new.left }
+        ensures converts { AnswersOver library.old (L.hosts self.now.leaves.now) self.now.depth fuel.old.left
+            (conversions.abs_conv (stands_for (L.means self.now.leaves.now) conv.now)) t.now result fuel.new.left }
         ensures makes { MakesAnswer library.old library.new t.now result }
     {
         let (binder, body) = abstraction(t, self.depth)?;
@@ -223,7 +228,8 @@ impl<L: Leaves> Level<'_, L> {
     #[cycle(converted)]
     fn sub_conv(&self, library: &mut Library, conv: &Conv, t: &Term, fuel: &mut Fuel) -> Answer
         requires asked { IsAsked (L.is_ready self.now.leaves.now) library.old t.now }
-        ensures converts { AnswersOver library.old (L.hosts self.now.leaves.now) self.now.depth fuel.old.left (conversions.sub_conv (stands_for (L.means self.now.leaves.now) conv.now)) t.now result fuel.new.left }
+        ensures converts { AnswersOver library.old (L.hosts self.now.leaves.now) self.now.depth fuel.old.left
+            (conversions.sub_conv (stands_for (L.means self.now.leaves.now) conv.now)) t.now result fuel.new.left }
         ensures makes { MakesAnswer library.old library.new t.now result }
     {
         match t.parts() {

@@ -61,7 +61,8 @@ impl Course {
         ensures further { IfOk result (λ answers. answers ≡ true → self.old.at < self.new.at) }
         ensures waits { IfOk result (λ answers. answers ≡ false → has_mark (drop self.new.at read.now) ≡ false) }
         ensures goes_on { OnOk result (GoesOn (session_tools (H.refiners host.now) (H.conversions host.now)) read.now (W.contents writer.old) (W.contents writer.new) self.old self.new) }
-        ensures err { IfErr result (BreaksOff (session_tools (H.refiners host.now) (H.conversions host.now)) read.now (W.contents writer.old) (W.contents writer.new) (W.has_failed writer.new) self.old) }
+        ensures err { IfErr result (BreaksOff (session_tools (H.refiners host.now) (H.conversions host.now)) read.now (W.contents writer.old) (W.contents writer.new)
+            (W.has_failed writer.new) self.old) }
         ensures unfailed { OnOk result (W.has_failed writer.new ≡ false) }
     {
         let Some((piece, _)) = cut(&read[self.at..]) else {
@@ -96,7 +97,8 @@ impl Course {
         ensures within { OnOk result (IsWithin read.now self.new) }
         ensures waits { OnOk result (has_mark (drop self.new.at read.now) ≡ false) }
         ensures goes_on { OnOk result (GoesOn (session_tools (H.refiners host.now) (H.conversions host.now)) read.now (W.contents writer.old) (W.contents writer.new) self.old self.new) }
-        ensures err { IfErr result (BreaksOff (session_tools (H.refiners host.now) (H.conversions host.now)) read.now (W.contents writer.old) (W.contents writer.new) (W.has_failed writer.new) self.old) }
+        ensures err { IfErr result (BreaksOff (session_tools (H.refiners host.now) (H.conversions host.now)) read.now (W.contents writer.old) (W.contents writer.new)
+            (W.has_failed writer.new) self.old) }
         ensures unfailed { OnOk result (W.has_failed writer.new ≡ false) }
     {
         if !has_new_mark(&read[self.at..], known - self.at) {
