@@ -7,3 +7,4 @@ pub mod Log
 pub mod Named
 pub mod Rules
 pub mod NewNames
+pub mod LookedUp

@@ -1,5 +1,6 @@
 // Tries conversions.
-ghost use Rattle.std.specs.Prelude.{◌≡◌, ℕ};
+ghost use Rattle.std.specs.Prelude.{◌≡◌, ◌<◌, ◌+◌, ℕ};
+ghost use Rattle.hol_model.specs.declared.limits.TheConstants.{DESCENTS_LIMIT};
 ghost use Rattle.hol_model.specs.Refining.Conversions as conversions;
 ghost use Rattle.hol_laws_refiners.proofs.Repeating.{IsFinal};
 ghost use Rattle.hol_tactic_exprs.specs.Expressions.{conversion_of};
@@ -37,317 +38,297 @@ pub fn convert<L: Leaves>(
     ensures converts { ConvertsOver library.old (L.hosts leaves.now) depth fuel.old.left (stands_for (L.means leaves.now) conv.now) t.now result fuel.new.left }
     ensures makes { Makes library.old library.new result }
 {
-    let answer = converted(library, leaves, conv, t, depth, fuel);
+    let answer = Level { leaves, depth }.converted(library, conv, t, fuel);
     theorem(library, t, answer)
 }
 
-// A conversion without parts: what it answers is a theorem.
-fn leaf<L: Leaves>(
-    library: &mut Library,
-    leaves: &L,
-    conv: &Conv,
-    t: &Term,
-    fuel: &mut Fuel,
-) -> Result<Converted, Fault>
-    requires leaf { IsLeaf conv.now }
-    requires asked { IsAsked (L.is_ready leaves.now) library.old t.now }
-    ensures converts { (depth : ℕ) → AnswersOver library.old (L.hosts leaves.now) depth fuel.old.left (stands_for (L.means leaves.now) conv.now) t.now result fuel.new.left }
-    ensures makes { MakesAnswer library.old library.new t.now result }
-{
-    let alloc = library.recorder.alloc();
-    as_answer(leaves.try_leaf(library, alloc, conv, t, fuel))
+// What a conversion answers on a term.
+type Answer = Result<Converted, Fault>;
+
+// What tries the conversions without parts, and how many descents are open.
+#[derive(Drop)]
+struct Level<'a, L> {
+    leaves: &'a L,
+    depth: u32,
 }
 
-// The same, where no theorem is made of what does not change.
-#[cycle(converted)]
-fn converted<L: Leaves>(
-    library: &mut Library,
-    leaves: &L,
-    conv: &Conv,
-    t: &Term,
-    depth: u32,
-    fuel: &mut Fuel,
-) -> Result<Converted, Fault>
-    requires asked { IsAsked (L.is_ready leaves.now) library.old t.now }
-    ensures converts { AnswersOver library.old (L.hosts leaves.now) depth fuel.old.left (stands_for (L.means leaves.now) conv.now) t.now result fuel.new.left }
-    ensures makes { MakesAnswer library.old library.new t.now result }
-{
-    match conv {
-        Conv::All => leaf(library, leaves, conv, t, fuel),
-        Conv::No => leaf(library, leaves, conv, t, fuel),
-        Conv::Beta => leaf(library, leaves, conv, t, fuel),
-        Conv::Rewr(_) => leaf(library, leaves, conv, t, fuel),
-        Conv::Host(_) => leaf(library, leaves, conv, t, fuel),
-        Conv::Then(first, others) => { thenc(library, leaves, first, others, t, depth, fuel) }
-        Conv::OrElse(first, others) => { orelsec(library, leaves, first, others, t, depth, fuel) }
-        Conv::Prefixed(prefix, part) => match *prefix {
-            Prefix::Repeat => repeatc(library, leaves, part, t, depth, fuel),
-            Prefix::Try => {
-                let made = converted(library, leaves, part, t, depth, fuel);
-                or_same(library, t, made, fuel)
-            }
-            Prefix::Rand => rand_conv(library, leaves, part, t, depth, fuel),
-            Prefix::Rator => rator_conv(library, leaves, part, t, depth, fuel),
-            Prefix::Abs => abs_conv(library, leaves, part, t, depth, fuel),
-            Prefix::Sub => sub_conv(library, leaves, part, t, depth, fuel),
-            Prefix::Depth => depth_conv(library, leaves, conv, part, t, depth, fuel),
-            Prefix::OnceDepth => { once_depth_conv(library, leaves, conv, part, t, depth, fuel) }
-            Prefix::TopDepth => { top_depth_conv(library, leaves, conv, part, t, depth, fuel) }
-        },
+impl<L: Leaves> Level<'_, L> {
+    // A conversion without parts: what it answers is a theorem.
+    fn leaf(&self, library: &mut Library, conv: &Conv, t: &Term, fuel: &mut Fuel) -> Answer
+        requires leaf { IsLeaf conv.now }
+        requires asked { IsAsked (L.is_ready self.now.leaves.now) library.old t.now }
+        ensures converts { (depth : ℕ) → AnswersOver library.old (L.hosts self.now.leaves.now) depth fuel.old.left (stands_for (L.means self.now.leaves.now) conv.now) t.now result fuel.new.left }
+        ensures makes { MakesAnswer library.old library.new t.now result }
+    {
+        let alloc = library.recorder.alloc();
+        as_answer(self.leaves.try_leaf(library, alloc, conv, t, fuel))
     }
-}
 
-// THENC, joined by TRANS from the left.
-#[cycle(converted)]
-fn thenc<L: Leaves>(
-    library: &mut Library,
-    leaves: &L,
-    first: &Conv,
-    others: &[Conv],
-    t: &Term,
-    depth: u32,
-    fuel: &mut Fuel,
-) -> Result<Converted, Fault>
-    requires asked { IsAsked (L.is_ready leaves.now) library.old t.now }
-    ensures converts { AnswersOver library.old (L.hosts leaves.now) depth fuel.old.left (thenc_of (L.means leaves.now) first.now others.now) t.now result fuel.new.left }
-    ensures makes { MakesAnswer library.old library.new t.now result }
-{
-    let mut made = converted(library, leaves, first, t, depth, fuel)?;
-    for other in others {
-        let right = right_of(library, t, &made);
-        let next = converted(library, leaves, other, right, depth, fuel);
-        made = then(library, t, &made, right, next)?;
-    }
-    Ok(made)
-}
-
-// ORELSEC.
-#[cycle(converted)]
-fn orelsec<L: Leaves>(
-    library: &mut Library,
-    leaves: &L,
-    first: &Conv,
-    others: &[Conv],
-    t: &Term,
-    depth: u32,
-    fuel: &mut Fuel,
-) -> Result<Converted, Fault>
-    requires asked { IsAsked (L.is_ready leaves.now) library.old t.now }
-    ensures converts { AnswersOver library.old (L.hosts leaves.now) depth fuel.old.left (orelsec_of (L.means leaves.now) first.now others.now) t.now result fuel.new.left }
-    ensures makes { MakesAnswer library.old library.new t.now result }
-{
-    let mut fault = match converted(library, leaves, first, t, depth, fuel) {
-        Ok(made) => return Ok(made),
-        Err(fault) => fault,
-    };
-    for other in others {
-        if !is_caught(&fault) {
-            return Err(fault);
+    // The same, where no theorem is made of what does not change.
+    #[cycle(converted)]
+    fn converted(&self, library: &mut Library, conv: &Conv, t: &Term, fuel: &mut Fuel) -> Answer
+        requires asked { IsAsked (L.is_ready self.now.leaves.now) library.old t.now }
+        ensures converts { AnswersOver library.old (L.hosts self.now.leaves.now) self.now.depth fuel.old.left (stands_for (L.means self.now.leaves.now) conv.now) t.now result fuel.new.left }
+        ensures makes { MakesAnswer library.old library.new t.now result }
+    {
+        match conv {
+            Conv::All => self.leaf(library, conv, t, fuel),
+            Conv::No => self.leaf(library, conv, t, fuel),
+            Conv::Beta => self.leaf(library, conv, t, fuel),
+            Conv::Rewr(_) => self.leaf(library, conv, t, fuel),
+            Conv::Host(_) => self.leaf(library, conv, t, fuel),
+            Conv::Then(first, others) => self.thenc(library, first, others, t, fuel),
+            Conv::OrElse(first, others) => self.orelsec(library, first, others, t, fuel),
+            Conv::Prefixed(prefix, part) => match *prefix {
+                Prefix::Repeat => self.repeatc(library, part, t, fuel),
+                Prefix::Try => {
+                    let made = self.converted(library, part, t, fuel);
+                    or_same(library, t, made, fuel)
+                }
+                Prefix::Rand => self.rand_conv(library, part, t, fuel),
+                Prefix::Rator => self.rator_conv(library, part, t, fuel),
+                Prefix::Abs => self.abs_conv(library, part, t, fuel),
+                Prefix::Sub => self.sub_conv(library, part, t, fuel),
+                Prefix::Depth => self.depth_conv(library, conv, part, t, fuel),
+                Prefix::OnceDepth => self.once_depth_conv(library, conv, part, t, fuel),
+                Prefix::TopDepth => self.top_depth_conv(library, conv, part, t, fuel),
+            },
         }
-        match converted(library, leaves, other, t, depth, fuel) {
+    }
+
+    // THENC, joined by TRANS from the left.
+    #[cycle(converted)]
+    fn thenc(
+        &self,
+        library: &mut Library,
+        first: &Conv,
+        others: &[Conv],
+        t: &Term,
+        fuel: &mut Fuel,
+    ) -> Answer
+        requires asked { IsAsked (L.is_ready self.now.leaves.now) library.old t.now }
+        ensures converts { AnswersOver library.old (L.hosts self.now.leaves.now) self.now.depth fuel.old.left (thenc_of (L.means self.now.leaves.now) first.now others.now) t.now result fuel.new.left }
+        ensures makes { MakesAnswer library.old library.new t.now result }
+    {
+        let mut made = self.converted(library, first, t, fuel)?;
+        for other in others {
+            let right = right_of(library, t, &made);
+            let next = self.converted(library, other, right, fuel);
+            made = then(library, t, &made, right, next)?;
+        }
+        Ok(made)
+    }
+
+    // ORELSEC.
+    #[cycle(converted)]
+    fn orelsec(
+        &self,
+        library: &mut Library,
+        first: &Conv,
+        others: &[Conv],
+        t: &Term,
+        fuel: &mut Fuel,
+    ) -> Answer
+        requires asked { IsAsked (L.is_ready self.now.leaves.now) library.old t.now }
+        ensures converts { AnswersOver library.old (L.hosts self.now.leaves.now) self.now.depth fuel.old.left
+            (orelsec_of (L.means self.now.leaves.now) first.now others.now) t.now result fuel.new.left }
+        ensures makes { MakesAnswer library.old library.new t.now result }
+    {
+        let mut fault = match self.converted(library, first, t, fuel) {
             Ok(made) => return Ok(made),
-            Err(next) => fault = next,
-        }
-    }
-    Err(fault)
-}
-
-// REPEATC, joined by TRANS from the right. What refuses it is not caught.
-#[cycle(converted)]
-fn repeatc<L: Leaves>(
-    library: &mut Library,
-    leaves: &L,
-    conv: &Conv,
-    t: &Term,
-    depth: u32,
-    fuel: &mut Fuel,
-) -> Result<Converted, Fault>
-    requires asked { IsAsked (L.is_ready leaves.now) library.old t.now }
-    ensures converts { AnswersOver library.old (L.hosts leaves.now) depth fuel.old.left (conversions.repeatc (stands_for (L.means leaves.now) conv.now)) t.now result fuel.new.left }
-    ensures last { IsFinal (answered library.old.recorder.theory t.now result) }
-    ensures makes { MakesAnswer library.old library.new t.now result }
-{
-    let alloc = library.recorder.alloc();
-    let mut chain = begin(alloc, t)?;
-    loop {
-        let made = converted(library, leaves, conv, &chain.current, depth, fuel);
-        chain = match link(library, t, chain, made, fuel) {
-            Linked::GoesOn(chain) => chain,
-            Linked::Ends(result) => return result,
+            Err(fault) => fault,
         };
-    }
-}
-
-// RAND_CONV.
-#[cycle(converted)]
-fn rand_conv<L: Leaves>(
-    library: &mut Library,
-    leaves: &L,
-    conv: &Conv,
-    t: &Term,
-    depth: u32,
-    fuel: &mut Fuel,
-) -> Result<Converted, Fault>
-    requires asked { IsAsked (L.is_ready leaves.now) library.old t.now }
-    ensures converts { AnswersOver library.old (L.hosts leaves.now) depth fuel.old.left (conversions.rand_conv (stands_for (L.means leaves.now) conv.now)) t.now result fuel.new.left }
-    ensures makes { MakesAnswer library.old library.new t.now result }
-{
-    let (function, argument) = combination(t, depth)?;
-    let part = converted(library, leaves, conv, argument, depth + 1, fuel);
-    of_argument(library, t, function, argument, part)
-}
-
-// RATOR_CONV.
-#[cycle(converted)]
-fn rator_conv<L: Leaves>(
-    library: &mut Library,
-    leaves: &L,
-    conv: &Conv,
-    t: &Term,
-    depth: u32,
-    fuel: &mut Fuel,
-) -> Result<Converted, Fault>
-    requires asked { IsAsked (L.is_ready leaves.now) library.old t.now }
-    ensures converts { AnswersOver library.old (L.hosts leaves.now) depth fuel.old.left (conversions.rator_conv (stands_for (L.means leaves.now) conv.now)) t.now result fuel.new.left }
-    ensures makes { MakesAnswer library.old library.new t.now result }
-{
-    let (function, argument) = combination(t, depth)?;
-    let part = converted(library, leaves, conv, function, depth + 1, fuel);
-    of_function(library, t, function, argument, part)
-}
-
-// ABS_CONV.
-#[cycle(converted)]
-fn abs_conv<L: Leaves>(
-    library: &mut Library,
-    leaves: &L,
-    conv: &Conv,
-    t: &Term,
-    depth: u32,
-    fuel: &mut Fuel,
-) -> Result<Converted, Fault>
-    requires asked { IsAsked (L.is_ready leaves.now) library.old t.now }
-    ensures converts { AnswersOver library.old (L.hosts leaves.now) depth fuel.old.left (conversions.abs_conv (stands_for (L.means leaves.now) conv.now)) t.now result fuel.new.left }
-    ensures makes { MakesAnswer library.old library.new t.now result }
-{
-    let (binder, body) = abstraction(t, depth)?;
-    let part = converted(library, leaves, conv, body, depth + 1, fuel);
-    of_body(library, t, binder, part)
-}
-
-// SUB_CONV.
-#[cycle(converted)]
-fn sub_conv<L: Leaves>(
-    library: &mut Library,
-    leaves: &L,
-    conv: &Conv,
-    t: &Term,
-    depth: u32,
-    fuel: &mut Fuel,
-) -> Result<Converted, Fault>
-    requires asked { IsAsked (L.is_ready leaves.now) library.old t.now }
-    ensures converts { AnswersOver library.old (L.hosts leaves.now) depth fuel.old.left (conversions.sub_conv (stands_for (L.means leaves.now) conv.now)) t.now result fuel.new.left }
-    ensures makes { MakesAnswer library.old library.new t.now result }
-{
-    match t.parts() {
-        Parts::Combination(function, argument) => {
-            if DESCENTS_LIMIT <= depth {
-                return Err(Fault::TooLarge);
-            }
-            let first = converted(library, leaves, conv, function, depth + 1, fuel)?;
-            let second = converted(library, leaves, conv, argument, depth + 1, fuel);
-            of_parts(library, t, function, argument, first, second)
-        }
-        Parts::Abstraction(_, _, _) => abs_conv(library, leaves, conv, t, depth, fuel),
-        Parts::Variable(_, _) => same(library, t, fuel),
-        Parts::Constant(_, _) => same(library, t, fuel),
-    }
-}
-
-// DEPTH_CONV, the whole of a part.
-#[cycle(converted)]
-fn depth_conv<L: Leaves>(
-    library: &mut Library,
-    leaves: &L,
-    whole: &Conv,
-    part: &Conv,
-    t: &Term,
-    depth: u32,
-    fuel: &mut Fuel,
-) -> Result<Converted, Fault>
-    requires whole { conversion_of whole.now ≡ conversions.depth_conv (conversion_of part.now) }
-    requires asked { IsAsked (L.is_ready leaves.now) library.old t.now }
-    ensures converts { AnswersOver library.old (L.hosts leaves.now) depth fuel.old.left (stands_for (L.means leaves.now) whole.now) t.now result fuel.new.left }
-    ensures makes { MakesAnswer library.old library.new t.now result }
-{
-    let below = sub_conv(library, leaves, whole, t, depth, fuel)?;
-    let right = right_of(library, t, &below);
-    let here = repeatc(library, leaves, part, right, depth, fuel);
-    then(library, t, &below, right, here)
-}
-
-// ONCE_DEPTH_CONV, the whole of a part.
-#[cycle(converted)]
-fn once_depth_conv<L: Leaves>(
-    library: &mut Library,
-    leaves: &L,
-    whole: &Conv,
-    part: &Conv,
-    t: &Term,
-    depth: u32,
-    fuel: &mut Fuel,
-) -> Result<Converted, Fault>
-    requires whole { conversion_of whole.now ≡ conversions.once_depth_conv (conversion_of part.now) }
-    requires asked { IsAsked (L.is_ready leaves.now) library.old t.now }
-    ensures converts { AnswersOver library.old (L.hosts leaves.now) depth fuel.old.left (stands_for (L.means leaves.now) whole.now) t.now result fuel.new.left }
-    ensures makes { MakesAnswer library.old library.new t.now result }
-{
-    match converted(library, leaves, part, t, depth, fuel) {
-        Ok(made) => Ok(made),
-        Err(fault) => {
+        for other in others {
             if !is_caught(&fault) {
                 return Err(fault);
             }
-            let made = sub_conv(library, leaves, whole, t, depth, fuel);
-            or_same(library, t, made, fuel)
+            match self.converted(library, other, t, fuel) {
+                Ok(made) => return Ok(made),
+                Err(next) => fault = next,
+            }
+        }
+        Err(fault)
+    }
+
+    // REPEATC, joined by TRANS from the right. What refuses it is not caught.
+    #[cycle(converted)]
+    fn repeatc(&self, library: &mut Library, conv: &Conv, t: &Term, fuel: &mut Fuel) -> Answer
+        requires asked { IsAsked (L.is_ready self.now.leaves.now) library.old t.now }
+        ensures converts { AnswersOver library.old (L.hosts self.now.leaves.now) self.now.depth fuel.old.left
+            (conversions.repeatc (stands_for (L.means self.now.leaves.now) conv.now)) t.now result fuel.new.left }
+        ensures last { IsFinal (answered library.old.recorder.theory t.now result) }
+        ensures makes { MakesAnswer library.old library.new t.now result }
+    {
+        let alloc = library.recorder.alloc();
+        let mut chain = begin(alloc, t)?;
+        loop {
+            let made = self.converted(library, conv, &chain.current, fuel);
+            chain = match link(library, t, chain, made, fuel) {
+                Linked::GoesOn(chain) => chain,
+                Linked::Ends(result) => return result,
+            };
         }
     }
-}
 
-// TOP_DEPTH_CONV, the whole of a part, joined by TRANS from the right.
-#[cycle(converted)]
-fn top_depth_conv<L: Leaves>(
-    library: &mut Library,
-    leaves: &L,
-    whole: &Conv,
-    part: &Conv,
-    t: &Term,
-    depth: u32,
-    fuel: &mut Fuel,
-) -> Result<Converted, Fault>
-    requires whole { conversion_of whole.now ≡ conversions.top_depth_conv (conversion_of part.now) }
-    requires asked { IsAsked (L.is_ready leaves.now) library.old t.now }
-    ensures converts { AnswersOver library.old (L.hosts leaves.now) depth fuel.old.left (stands_for (L.means leaves.now) whole.now) t.now result fuel.new.left }
-    ensures makes { MakesAnswer library.old library.new t.now result }
-{
-    let alloc = library.recorder.alloc();
-    let mut chain = begin(alloc, t)?;
-    loop {
-        let here = repeatc(library, leaves, part, &chain.current, depth, fuel);
-        chain = match link(library, t, chain, here, fuel) {
-            Linked::GoesOn(chain) => chain,
-            Linked::Ends(result) => return result,
+    // Tries a conversion on a part of a term.
+    #[cycle(converted)]
+    fn below(&self, library: &mut Library, conv: &Conv, part: &Term, fuel: &mut Fuel) -> Answer
+        requires room { self.now.depth < DESCENTS_LIMIT }
+        requires asked { IsAsked (L.is_ready self.now.leaves.now) library.old part.now }
+        ensures converts { AnswersOver library.old (L.hosts self.now.leaves.now) (self.now.depth + 1) fuel.old.left (stands_for (L.means self.now.leaves.now) conv.now) part.now result fuel.new.left }
+        ensures makes { MakesAnswer library.old library.new part.now result }
+    {
+        let deeper = Level {
+            leaves: self.leaves,
+            depth: self.depth + 1,
         };
-        let below = sub_conv(library, leaves, whole, &chain.current, depth, fuel);
-        let below = changed(&chain.current, below);
-        chain = match link(library, t, chain, below, fuel) {
-            Linked::GoesOn(chain) => chain,
-            Linked::Ends(result) => return result,
-        };
-        let again = converted(library, leaves, part, &chain.current, depth, fuel);
-        chain = match link(library, t, chain, again, fuel) {
-            Linked::GoesOn(chain) => chain,
-            Linked::Ends(result) => return result,
-        };
+        deeper.converted(library, conv, part, fuel)
+    }
+
+    // RAND_CONV.
+    #[cycle(converted)]
+    fn rand_conv(&self, library: &mut Library, conv: &Conv, t: &Term, fuel: &mut Fuel) -> Answer
+        requires asked { IsAsked (L.is_ready self.now.leaves.now) library.old t.now }
+        ensures converts { AnswersOver library.old (L.hosts self.now.leaves.now) self.now.depth fuel.old.left
+            (conversions.rand_conv (stands_for (L.means self.now.leaves.now) conv.now)) t.now result fuel.new.left }
+        ensures makes { MakesAnswer library.old library.new t.now result }
+    {
+        let (function, argument) = combination(t, self.depth)?;
+        let part = self.below(library, conv, argument, fuel);
+        of_argument(library, t, function, argument, part)
+    }
+
+    // RATOR_CONV.
+    #[cycle(converted)]
+    fn rator_conv(&self, library: &mut Library, conv: &Conv, t: &Term, fuel: &mut Fuel) -> Answer
+        requires asked { IsAsked (L.is_ready self.now.leaves.now) library.old t.now }
+        ensures converts { AnswersOver library.old (L.hosts self.now.leaves.now) self.now.depth fuel.old.left
+            (conversions.rator_conv (stands_for (L.means self.now.leaves.now) conv.now)) t.now result fuel.new.left }
+        ensures makes { MakesAnswer library.old library.new t.now result }
+    {
+        let (function, argument) = combination(t, self.depth)?;
+        let part = self.below(library, conv, function, fuel);
+        of_function(library, t, function, argument, part)
+    }
+
+    // ABS_CONV.
+    #[cycle(converted)]
+    fn abs_conv(&self, library: &mut Library, conv: &Conv, t: &Term, fuel: &mut Fuel) -> Answer
+        requires asked { IsAsked (L.is_ready self.now.leaves.now) library.old t.now }
+        ensures converts { AnswersOver library.old (L.hosts self.now.leaves.now) self.now.depth fuel.old.left
+            (conversions.abs_conv (stands_for (L.means self.now.leaves.now) conv.now)) t.now result fuel.new.left }
+        ensures makes { MakesAnswer library.old library.new t.now result }
+    {
+        let (binder, body) = abstraction(t, self.depth)?;
+        let part = self.below(library, conv, body, fuel);
+        of_body(library, t, binder, part)
+    }
+
+    // SUB_CONV.
+    #[cycle(converted)]
+    fn sub_conv(&self, library: &mut Library, conv: &Conv, t: &Term, fuel: &mut Fuel) -> Answer
+        requires asked { IsAsked (L.is_ready self.now.leaves.now) library.old t.now }
+        ensures converts { AnswersOver library.old (L.hosts self.now.leaves.now) self.now.depth fuel.old.left
+            (conversions.sub_conv (stands_for (L.means self.now.leaves.now) conv.now)) t.now result fuel.new.left }
+        ensures makes { MakesAnswer library.old library.new t.now result }
+    {
+        match t.parts() {
+            Parts::Combination(function, argument) => {
+                if DESCENTS_LIMIT <= self.depth {
+                    return Err(Fault::TooLarge);
+                }
+                let first = self.below(library, conv, function, fuel)?;
+                let second = self.below(library, conv, argument, fuel);
+                of_parts(library, t, function, argument, first, second)
+            }
+            Parts::Abstraction(_, _, _) => self.abs_conv(library, conv, t, fuel),
+            Parts::Variable(_, _) => same(library, t, fuel),
+            Parts::Constant(_, _) => same(library, t, fuel),
+        }
+    }
+
+    // DEPTH_CONV, the whole of a part.
+    #[cycle(converted)]
+    fn depth_conv(
+        &self,
+        library: &mut Library,
+        whole: &Conv,
+        part: &Conv,
+        t: &Term,
+        fuel: &mut Fuel,
+    ) -> Answer
+        requires whole { conversion_of whole.now ≡ conversions.depth_conv (conversion_of part.now) }
+        requires asked { IsAsked (L.is_ready self.now.leaves.now) library.old t.now }
+        ensures converts { AnswersOver library.old (L.hosts self.now.leaves.now) self.now.depth fuel.old.left (stands_for (L.means self.now.leaves.now) whole.now) t.now result fuel.new.left }
+        ensures makes { MakesAnswer library.old library.new t.now result }
+    {
+        let below = self.sub_conv(library, whole, t, fuel)?;
+        let right = right_of(library, t, &below);
+        let here = self.repeatc(library, part, right, fuel);
+        then(library, t, &below, right, here)
+    }
+
+    // ONCE_DEPTH_CONV, the whole of a part.
+    #[cycle(converted)]
+    fn once_depth_conv(
+        &self,
+        library: &mut Library,
+        whole: &Conv,
+        part: &Conv,
+        t: &Term,
+        fuel: &mut Fuel,
+    ) -> Answer
+        requires whole { conversion_of whole.now ≡ conversions.once_depth_conv (conversion_of part.now) }
+        requires asked { IsAsked (L.is_ready self.now.leaves.now) library.old t.now }
+        ensures converts { AnswersOver library.old (L.hosts self.now.leaves.now) self.now.depth fuel.old.left (stands_for (L.means self.now.leaves.now) whole.now) t.now result fuel.new.left }
+        ensures makes { MakesAnswer library.old library.new t.now result }
+    {
+        match self.converted(library, part, t, fuel) {
+            Ok(made) => Ok(made),
+            Err(fault) => {
+                if !is_caught(&fault) {
+                    return Err(fault);
+                }
+                let made = self.sub_conv(library, whole, t, fuel);
+                or_same(library, t, made, fuel)
+            }
+        }
+    }
+
+    // TOP_DEPTH_CONV, the whole of a part, joined by TRANS from the right.
+    #[cycle(converted)]
+    fn top_depth_conv(
+        &self,
+        library: &mut Library,
+        whole: &Conv,
+        part: &Conv,
+        t: &Term,
+        fuel: &mut Fuel,
+    ) -> Answer
+        requires whole { conversion_of whole.now ≡ conversions.top_depth_conv (conversion_of part.now) }
+        requires asked { IsAsked (L.is_ready self.now.leaves.now) library.old t.now }
+        ensures converts { AnswersOver library.old (L.hosts self.now.leaves.now) self.now.depth fuel.old.left (stands_for (L.means self.now.leaves.now) whole.now) t.now result fuel.new.left }
+        ensures makes { MakesAnswer library.old library.new t.now result }
+    {
+        let alloc = library.recorder.alloc();
+        let mut chain = begin(alloc, t)?;
+        loop {
+            let here = self.repeatc(library, part, &chain.current, fuel);
+            chain = match link(library, t, chain, here, fuel) {
+                Linked::GoesOn(chain) => chain,
+                Linked::Ends(result) => return result,
+            };
+            let below = self.sub_conv(library, whole, &chain.current, fuel);
+            let below = changed(&chain.current, below);
+            chain = match link(library, t, chain, below, fuel) {
+                Linked::GoesOn(chain) => chain,
+                Linked::Ends(result) => return result,
+            };
+            let again = self.converted(library, part, &chain.current, fuel);
+            chain = match link(library, t, chain, again, fuel) {
+                Linked::GoesOn(chain) => chain,
+                Linked::Ends(result) => return result,
+            };
+        }
     }
 }

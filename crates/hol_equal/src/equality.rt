@@ -1,10 +1,9 @@
 // Derived rules without connectives.
 ghost use Rattle.std.specs.Prelude.{◌≡◌, List, [], ◌∷◌, ◌++◌, IfOk, IfErr, IfSome, Some};
 ghost use Rattle.std.specs.List.{list_any};
-ghost use Rattle.std.specs.Option.{option_map, is_some};
+ghost use Rattle.std.specs.Option.{is_some};
 ghost use Rattle.hol_model.specs.Terms.NamedTerm.{combination, dest_abstraction};
 ghost use Rattle.hol_model.specs.Logic.NamedLogic.{dest_redex};
-ghost use Rattle.hol_model.specs.Kernel.Rules.{dest_equation};
 ghost use Rattle.hol_model.specs.Terms.Nameless.{Nameless, image, same_term};
 ghost use Rattle.hol_model.specs.Terms.HolType.{bool_type};
 ghost use Rattle.hol_model.specs.Terms.Measures.{nameless_within_limits};
@@ -24,43 +23,9 @@ use crate::conversion::converted_known;
 use crate::steps::{self, conclusion_of};
 use hol_alpha::aconv;
 use hol_journal::{Rec, Recorder};
+pub use hol_kernel::equation_parts;
 use hol_model::Fault;
 use hol_terms::{Parts, Term};
-
-/// The parts of an equation, `=` among them.
-#[derive(Clone, Copy)]
-pub struct Equation<'a> {
-    pub(crate) relation: &'a Term,
-    pub left: &'a Term,
-    pub right: &'a Term,
-}
-
-/// The parts of the term, where it is an equation.
-pub fn equation_parts(term: &Term) -> Option<Equation<'_>>
-    ensures sides { option_map (λ parts. (parts.left.now, parts.right.now)) result ≡ dest_equation term.now }
-    ensures whole { IfSome result (λ parts. term.now ≡ combination (combination parts.relation.now parts.left.now) parts.right.now) }
-{
-    match term.parts() {
-        Parts::Combination(applied, right) => match applied.parts() {
-            Parts::Combination(relation, left) => match relation.parts() {
-                Parts::Constant(name, _) => {
-                    if name == "=" {
-                        Some(Equation {
-                            relation,
-                            left,
-                            right,
-                        })
-                    } else {
-                        None
-                    }
-                }
-                _ => None,
-            },
-            _ => None,
-        },
-        _ => None,
-    }
-}
 
 // The parts of a redex: the abstraction, its variable and body, and the argument.
 #[derive(Clone, Copy)]

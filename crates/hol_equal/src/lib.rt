@@ -11,5 +11,5 @@ pub use equality::{
     add_assum, add_assum_known, beta_conv, cut, cut_known, named, named_same, prove_hyp, renamed,
     sym,
 };
-pub use lemma::{by_fitting_lemma, by_lemma, instance, instance_known};
+pub use lemma::{by_fitting_lemma, instance_known};
 pub use steps::{abs, assume, assume_known, conclusion_of, eq_mp, eq_mp_known, trans, trans_known};

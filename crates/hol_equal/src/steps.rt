@@ -209,20 +209,6 @@ pub fn abs(recorder: &mut Recorder, binder: &Term, premise: &Rec) -> Result<Rec,
     recorder.infer(Inference::Abs(binder, premise))
 }
 
-// INST, which walks the terms.
-pub(crate) fn inst(
-    recorder: &mut Recorder,
-    theta: &[(Term, Term)],
-    premise: &Rec,
-) -> Result<Rec, Fault>
-    requires { IsMade recorder.old premise.now }
-    ensures continues { Continues recorder.old recorder.new result }
-    ensures derives { replacements_refusal recorder.old.theory theta.now ≡ None → (h : List Nameless) (c : Nameless) → Shows premise.now.theorem h c
-        → DerivesInstance result (map (put_all theta.now) h) (put_all theta.now c) }
-{
-    recorder.infer(Inference::Inst(theta, premise))
-}
-
 // INST, by terms of the variables' types that the theory knows, which are not walked for it.
 pub(crate) fn inst_known(
     recorder: &mut Recorder,

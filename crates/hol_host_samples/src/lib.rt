@@ -5,7 +5,8 @@
 
 mod conversions;
 mod forms;
+mod host;
 mod refiners;
 
-pub use conversions::swap;
-pub use refiners::{liar, liar2, peel};
+pub use host::{CONVERSIONS, Conversion, REFINERS, Refiner, SAMPLES, Samples};
+pub use refiners::peel;

@@ -11,4 +11,5 @@ mod trail;
 
 pub use inference::Inference;
 pub use laws::journals_grow;
+pub use limits::within_limits;
 pub use recorder::{Rec, Recorder};

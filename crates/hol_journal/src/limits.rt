@@ -10,8 +10,8 @@ use hol_kernel::Thm;
 use hol_terms::Term;
 use hol_types::Ty;
 
-// A theorem's terms are within the limits.
-pub(crate) fn within_limits(theorem: &Thm)
+/// A theorem's terms are within the limits.
+pub fn within_limits(theorem: &Thm)
     ensures { FitsLog theorem.now }
 {
     term_fits(theorem.concl());

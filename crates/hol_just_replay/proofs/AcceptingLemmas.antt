@@ -25,17 +25,17 @@ use Rattle.hol_laws_steps.proofs.FewerHypotheses.{justifications-monotone, Subgo
 use Rattle.hol_journal.specs.Journal.{Recorded}
 use Rattle.hol_journal.specs.Steps.{sequent_of_theorem}
 use Rattle.hol_equal.specs.Inferred.{IsDrawn}
-use Rattle.hol_theorem_store.specs.Stored.{Stored}
+use Rattle.hol_theorem_store.specs.Stored.{Stored, theorems_in}
 use Rattle.hol_just_replay.specs.Named.{named_sequents, sequents_of}
-use Rattle.hol_just_replay.specs.Lines.{Meets, expected_in, IsReplayRefusal}
+use Rattle.hol_just_replay.specs.Lines.{expected_in, IsReplayRefusal}
 use Rattle.hol_just_replay.specs.Accepting.{are_known_formulas, is_known_goal, are_known_goals, falsity_from, supposed_from, AreSupposed}
 use Rattle.hol_just_replay.specs.Accepting.{IsUnsupposed, HasRoomUnder, IsReplayedUnder, AnswersUnder, PassesUnder, sequent_under, goal_under}
-use Rattle.hol_model.specs.Goals.Replays.{Store, sequents_in, IsKnownGoal, AreKnownGoals, terms_of_rule, terms_of_sequent, terms_of_goals, has_room_over, have_room_over, has_room, has_room_for_step}
+use Rattle.hol_model.specs.Goals.Replays.{Store, IsReplay, sequents_in, IsKnownGoal, AreKnownGoals, terms_of_rule, terms_of_sequent, terms_of_goals, has_room_over, have_room_over, has_room, has_room_for_step}
 use Rattle.hol_model.specs.Derived.DerivedRules.{is_among, is_roomy, terms_of_theorem}
 use Rattle.hol_just_replay.specs.Room.{are_roomy}
 use Rattle.hol_model.specs.Refining.HostFunctions.{IsAcceptable, AnswersAccept}
 use Rattle.hol_just_replay.proofs.AchievingLemmas.{achieves-decides}
-use Rattle.hol_just_replay.proofs.Replaying.{alike-drawn, stronger, weaker, roomy-alike, theorem-roomy, store-stays}
+use Rattle.hol_just_replay.proofs.Replaying.{answers-drawn, answers-fit, alike-drawn, stronger, weaker, roomy-alike, theorem-roomy, store-stays}
 
 -- ---- goals of known terms
 
@@ -328,12 +328,13 @@ supposes-not theory store falsity extra step fault shows refused fits = record {
 
 pub replays-under : (theory : Theory) (stored : Stored) (falsity : Theorem) (extra : Nameless) (step : Step) (all : List Recorded)
     (result : Result Theorem Fault) → IsDrawn (Some (falsity_from extra)) (Ok falsity)
-    → AreSupposed theory (map image falsity.hypotheses) step.goals all → Meets (expected_in theory stored all step.justification) result
+    → AreSupposed theory (map image falsity.hypotheses) step.goals all → IsReplay theory (theorems_in stored) (sequents_of all) step.justification result
     → IsReplayedUnder theory (named_sequents stored) step result extra
-replays-under theory stored falsity extra step all result shows are met = record {
-  drawn = replay-under theory (named_sequents stored) falsity extra step all result shows are met.drawn;
-  fits = λ room. met.fits (room-under theory (named_sequents stored) falsity extra step all shows are room.replay_roomy);
-}
+replays-under theory stored falsity extra step all result shows are answers =
+    let expected = expected_in theory stored all step.justification in record {
+      drawn = replay-under theory (named_sequents stored) falsity extra step all result shows are (answers-drawn expected.has_room expected.sequent result answers);
+      fits = λ room. answers-fit expected.has_room expected.sequent result answers (room-under theory (named_sequents stored) falsity extra step all shows are room.replay_roomy);
+    }
 
 pub unreplayed : (theory : Theory) (store : NamedSequents) (extra : Nameless) (goal : Goal) (step : Step) (fault : Fault) → IsReplayedUnder theory store step (Err fault) extra → IsReplayRefusal fault
     → AnswersUnder {A = Unit {0}} theory store goal step (Err fault) extra

@@ -530,6 +530,31 @@ replay-answers expected result met refusals = go expected.has_room expected.sequ
     go room None (Err fault) drawn fits (inl invalid) = inl invalid
     go room None (Err fault) drawn fits (inr is) = inr (want room fault fits is)
 
+-- what the answer of a replay says
+pub answers-drawn : (room : Bool) (found : Option Sequent) (result : Result Theorem Fault) → AnswersReplay room found result → IsDrawn found result
+answers-drawn room (Some s) (Ok theorem) has = record { same_set = record { to = has.hypotheses.back; back = has.hypotheses.to }; concludes = has.conclusion }
+answers-drawn room (Some s) (Err fault) (inl memory) = inl memory
+answers-drawn room (Some s) (Err fault) (inr large) = inr large.0
+answers-drawn room None (Ok theorem) none = absurd none
+answers-drawn room None (Err fault) refusal = tt
+
+want-fits : (room : Bool) (fault : Fault) → IsWant fault room → room ≡ true → fault ≡ TooLarge → ⊥
+want-fits room fault (inl memory) roomy is = cc
+want-fits room fault (inr large) roomy is = let none = large.1 in cc
+
+pub answers-fit : (room : Bool) (found : Option Sequent) (result : Result Theorem Fault) → AnswersReplay room found result → room ≡ true → IsNotLarge result
+answers-fit room found (Ok theorem) answers roomy = tt
+answers-fit room (Some s) (Err fault) want roomy = want-fits room fault want roomy
+answers-fit room None (Err fault) (inl invalid) roomy = λ is. cc
+answers-fit room None (Err fault) (inr want) roomy = want-fits room fault want roomy
+
+pub answers-refusal : (room : Bool) (found : Option Sequent) (fault : Fault) → AnswersReplay room found (Err fault) → IsReplayRefusal fault
+answers-refusal room (Some s) fault (inl memory) = inr (inl memory)
+answers-refusal room (Some s) fault (inr large) = inr (inr large.0)
+answers-refusal room None fault (inl invalid) = inl invalid
+answers-refusal room None fault (inr (inl memory)) = inr (inl memory)
+answers-refusal room None fault (inr (inr large)) = inr (inr large.0)
+
 -- the next line
 pub line-next : (old now new : Journal) (stored : Stored) (subgoals : List Recorded) (lines : List Line) (at : ℕ) (line : Line)
     (answers more : List LineAnswer) (answer : LineAnswer) → at < length lines → line ≡ get_or lines at line

@@ -1,12 +1,12 @@
 // The test of a step by two replays over its subgoals.
 ghost use Rattle.std.specs.Bool.{Decides};
-ghost use Rattle.std.specs.Prelude.{◌≡◌, true, Some, Ok, OnOk, IfErr, IsTrue};
+ghost use Rattle.std.specs.Prelude.{◌≡◌, true, Some, Ok, OnOk, IsTrue};
 ghost use Rattle.hol_model.specs.Terms.Nameless.{Nameless, image};
 ghost use Rattle.hol_model.specs.Logic.Logic.{false_term};
 ghost use Rattle.hol_model.specs.Goals.Achieving.{is_assumed, are_assumed, achieves};
-ghost use Rattle.hol_model.specs.Goals.ValidSteps.{false_twice, AchievesUnder, IsValid};
+ghost use Rattle.hol_model.specs.Goals.ValidSteps.{AchievesUnder, IsValid};
 ghost use Rattle.hol_model.specs.Refining.HostFunctions.{AnswersAccept};
-ghost use Rattle.hol_journal.specs.Journal.{IsMade, theorem_in};
+ghost use Rattle.hol_journal.specs.Journal.{IsMade};
 ghost use Rattle.hol_journal.specs.Growth.{IsGrown};
 ghost use Rattle.hol_prelude.specs.HasLogic.{HasLogic};
 ghost use Rattle.hol_equal.specs.Inferred.{IsDrawn};
@@ -14,11 +14,10 @@ ghost use Rattle.hol_just.specs.Steps.{goal_of, step_of};
 ghost use Rattle.hol_theorem_store.specs.Stored.{IsStoreOf, theorems_in};
 ghost use Rattle.hol_theorem_store.specs.Store.{stored_of};
 ghost use Rattle.hol_just_replay.specs.Named.{named_sequents, sequent_of_recorded};
-ghost use Rattle.hol_just_replay.specs.Lines.{IsReplayRefusal};
-ghost use Rattle.hol_just_replay.specs.Accepting.{are_known_goals, falsity_from, goal_under, UnderFormula, IsReplayedUnder, AnswersUnder};
+ghost use Rattle.hol_just_replay.specs.Accepting.{are_known_goals, falsity_from, goal_under, UnderFormula, AnswersUnder};
 
 use crate::achieving::is_among;
-use crate::replays::replayed;
+use crate::replays::replay;
 use crate::supposing::{falsity_once, falsity_twice, suppose_all};
 use hol_alpha::aconv;
 use hol_journal::{Rec, Recorder};
@@ -64,32 +63,8 @@ fn achieves_under(recorder: &Recorder, theorem: &Rec, falsity: &Rec, goal: &Goal
     passes_under(recorder, theorem, falsity, goal)
 }
 
-// The theorem that the step makes, where its subgoals are supposed under the hypothesis of a theorem that says `F`.
-#[tactic(auto, using(crate::proofs::AcceptingLemmas::accepting))]
-fn replayed_under(
-    recorder: &mut Recorder,
-    logic: &Bool,
-    store: &Store,
-    step: &Step,
-    falsity: &Rec,
-    are_known: bool,
-) -> Result<Rec, Fault>
-    requires logic { HasLogic recorder.old logic.now }
-    requires store { IsStoreOf recorder.old (stored_of store.now) }
-    requires premise { IsMade recorder.old falsity.now }
-    requires concludes { image falsity.now.theorem.conclusion ≡ false_term }
-    requires known { IsTrue are_known → are_known_goals recorder.old.theory (step_of step.now).goals ≡ true }
-    ensures grown { IsGrown recorder.old recorder.new }
-    ensures theory { recorder.new.theory ≡ recorder.old.theory }
-    ensures replayed { UnderFormula falsity.now.theorem (IsReplayedUnder recorder.old.theory (named_sequents (stored_of store.now)) (step_of step.now) (theorem_in result)) }
-    ensures refusals { IfErr result IsReplayRefusal }
-{
-    logic_stays();
-    let subgoals = suppose_all(recorder, logic, falsity, are_known, &step.goals)?;
-    replayed(recorder, logic, store, &step.just, &subgoals)
-}
-
 // Whether the step makes the goal, where its subgoals are supposed under the hypothesis of a theorem that says `F`.
+#[tactic(auto, using(crate::proofs::AcceptingLemmas::accepting))]
 fn replay_passes(
     recorder: &mut Recorder,
     logic: &Bool,
@@ -108,52 +83,13 @@ fn replay_passes(
     ensures theory { recorder.new.theory ≡ recorder.old.theory }
     ensures answer { UnderFormula falsity.now.theorem (AnswersUnder recorder.old.theory (named_sequents (stored_of store.now)) (goal_of goal.now) (step_of step.now) result) }
 {
-    let theorem = replayed_under(recorder, logic, store, step, falsity, are_known)?;
+    logic_stays();
+    let subgoals = suppose_all(recorder, logic, falsity, are_known, &step.goals)?;
+    let theorem = replay(recorder, logic, store, &step.just, &subgoals)?;
     if !achieves_under(recorder, &theorem, falsity, goal) {
         return Err(Fault::InvalidStep);
     }
     Ok(())
-}
-
-// Whether the step passes under `F`.
-#[tactic(auto, using(crate::proofs::AcceptingLemmas::accepting))]
-fn passes_once(
-    recorder: &mut Recorder,
-    logic: &Bool,
-    store: &Store,
-    goal: &Goal,
-    step: &Step,
-) -> Result<(), Fault>
-    requires logic { HasLogic recorder.old logic.now }
-    requires store { IsStoreOf recorder.old (stored_of store.now) }
-    ensures grown { IsGrown recorder.old recorder.new }
-    ensures theory { recorder.new.theory ≡ recorder.old.theory }
-    ensures answer { AnswersUnder recorder.old.theory (named_sequents (stored_of store.now)) (goal_of goal.now) (step_of step.now) result false_term }
-{
-    logic_stays();
-    let falsity = falsity_once(recorder, logic)?;
-    replay_passes(recorder, logic, store, goal, step, &falsity, false)
-}
-
-// Whether the step, whose subgoals are of known formulas, passes under `F /\ F`.
-#[tactic(auto, using(crate::proofs::AcceptingLemmas::accepting))]
-fn passes_twice(
-    recorder: &mut Recorder,
-    logic: &Bool,
-    store: &Store,
-    goal: &Goal,
-    step: &Step,
-) -> Result<(), Fault>
-    requires logic { HasLogic recorder.old logic.now }
-    requires store { IsStoreOf recorder.old (stored_of store.now) }
-    requires known { are_known_goals recorder.old.theory (step_of step.now).goals ≡ true }
-    ensures grown { IsGrown recorder.old recorder.new }
-    ensures theory { recorder.new.theory ≡ recorder.old.theory }
-    ensures answer { AnswersUnder recorder.old.theory (named_sequents (stored_of store.now)) (goal_of goal.now) (step_of step.now) result false_twice }
-{
-    logic_stays();
-    let falsity = falsity_twice(recorder, logic)?;
-    replay_passes(recorder, logic, store, goal, step, &falsity, true)
 }
 
 /// The test of a step (HOL Light's `VALID`, tactics.ml, which makes one theorem up for each subgoal): its subgoals are of
@@ -177,7 +113,9 @@ pub fn accept(
 {
     logic_stays();
     replays_show_valid();
-    passes_once(recorder, logic, store, goal, step)?;
-    passes_twice(recorder, logic, store, goal, step)?;
+    let once = falsity_once(recorder, logic)?;
+    replay_passes(recorder, logic, store, goal, step, &once, false)?;
+    let twice = falsity_twice(recorder, logic)?;
+    replay_passes(recorder, logic, store, goal, step, &twice, true)?;
     Ok(())
 }

@@ -227,30 +227,6 @@ fn line_answers(
     Ok(answers)
 }
 
-// The theorem of a justification, or why there is none.
-pub(crate) fn replayed(
-    recorder: &mut Recorder,
-    logic: &Bool,
-    store: &Store,
-    just: &Just,
-    subgoals: &[Rec],
-) -> Result<Rec, Fault>
-    requires logic { HasLogic recorder.old logic.now }
-    requires store { IsStoreOf recorder.old (stored_of store.now) }
-    requires subgoals { AreMade recorder.old subgoals.now }
-    ensures grown { IsGrown recorder.old recorder.new }
-    ensures theory { recorder.new.theory ≡ recorder.old.theory }
-    ensures made { IfOk result (IsMade recorder.new) }
-    ensures met { Meets (expected_in recorder.old.theory (stored_of store.now) subgoals.now (tree_of just.now)) (theorem_in result) }
-    ensures refusals { IfErr result IsReplayRefusal }
-{
-    let alloc = recorder.alloc();
-    let lines = just.lines();
-    let root = just.root();
-    let answers = line_answers(recorder, logic, store, subgoals, lines)?;
-    finished(alloc, &answers, root)
-}
-
 // The theorem of the line that stands for the whole.
 fn finished(alloc: Global, answers: &[LineAnswer], root: usize) -> Result<Rec, Fault>
     requires { root < length answers.now }
@@ -283,5 +259,9 @@ pub fn replay(
     ensures made { IfOk result (IsMade recorder.new) }
     ensures answer { IsReplay recorder.old.theory (theorems_in (stored_of store.now)) (sequents_of subgoals.now) (tree_of just.now) (theorem_in result) }
 {
-    replayed(recorder, logic, store, just, subgoals)
+    let alloc = recorder.alloc();
+    let lines = just.lines();
+    let root = just.root();
+    let answers = line_answers(recorder, logic, store, subgoals, lines)?;
+    finished(alloc, &answers, root)
 }

@@ -187,31 +187,6 @@ fn refusal(fault: Fault) -> Fault
     }
 }
 
-// A goal's sequent, or the refusal of the step.
-fn suppose_one(
-    recorder: &mut Recorder,
-    logic: &Bool,
-    falsity: &Rec,
-    is_known: bool,
-    goal: &Goal,
-) -> Result<Rec, Fault>
-    requires logic { HasLogic recorder.old logic.now }
-    requires premise { IsMade recorder.old falsity.now }
-    requires concludes { image falsity.now.theorem.conclusion ≡ false_term }
-    requires known { IsTrue is_known → is_known_goal recorder.old.theory (goal_of goal.now) ≡ true }
-    ensures grown { IsGrown recorder.old recorder.new }
-    ensures theory { recorder.new.theory ≡ recorder.old.theory }
-    ensures made { IfOk result (IsMade recorder.new) }
-    ensures ok { IfOk result (λ made. IsDrawn (supposed_from recorder.old.theory (map image falsity.now.theorem.hypotheses) (goal_of goal.now)) (Ok made.theorem)) }
-    ensures err { IfErr result (IsUnsupposed (is_known_goal recorder.old.theory (goal_of goal.now))) }
-    ensures fits { HasGoalRoom falsity.now.theorem (goal_of goal.now) → IsNotLarge result }
-{
-    match supposed_from(recorder, logic, falsity, is_known, goal) {
-        Ok(made) => Ok(made),
-        Err(fault) => Err(refusal(fault)),
-    }
-}
-
 // One theorem more.
 fn pushed(theorems: &mut Vec<Rec>, theorem: Rec) -> Result<(), Fault>
     ensures ok { OnOk result (theorems.new.items ≡ theorems.old.items ++ theorem ∷ []) }
@@ -244,8 +219,10 @@ pub(crate) fn suppose_all(
     logic_stays();
     let mut theorems = Vec::new(alloc);
     for goal in goals {
-        let theorem = suppose_one(recorder, logic, falsity, are_known, goal)?;
-        pushed(&mut theorems, theorem)?;
+        match supposed_from(recorder, logic, falsity, are_known, goal) {
+            Ok(theorem) => pushed(&mut theorems, theorem)?,
+            Err(fault) => return Err(refusal(fault)),
+        }
     }
     Ok(theorems)
 }

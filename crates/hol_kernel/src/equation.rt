@@ -11,10 +11,11 @@ use hol_model::Fault;
 use hol_terms::{Parts, Term, mk_eq, same_variable};
 use std::alloc::Global;
 
-/// An equation: `=` applied to its left side, and the sides.
+/// An equation: `=` applied to its left side, `=`, and the sides.
 #[derive(Clone, Copy)]
 pub struct EquationParts<'a> {
-    pub applied: &'a Term,
+    pub(crate) applied: &'a Term,
+    pub relation: &'a Term,
     pub left: &'a Term,
     pub right: &'a Term,
 }
@@ -22,15 +23,17 @@ pub struct EquationParts<'a> {
 /// The parts of the term, where it is an equation.
 pub fn equation_parts(term: &Term) -> Option<EquationParts<'_>>
     ensures sides { option_map (λ parts. (parts.left.now, parts.right.now)) result ≡ rules.dest_equation term.now }
-    ensures whole { IfSome result (λ parts. term.now ≡ spec.combination parts.applied.now parts.right.now) }
+    ensures whole { IfSome result (λ parts. term.now ≡ spec.combination (spec.combination parts.relation.now parts.left.now) parts.right.now) }
+    ensures applied { IfSome result (λ parts. parts.applied.now ≡ spec.combination parts.relation.now parts.left.now) }
 {
     match term.parts() {
         Parts::Combination(applied, right) => match applied.parts() {
-            Parts::Combination(function, left) => match function.parts() {
+            Parts::Combination(relation, left) => match relation.parts() {
                 Parts::Constant(name, _) => {
                     if name == "=" {
                         Some(EquationParts {
                             applied,
+                            relation,
                             left,
                             right,
                         })

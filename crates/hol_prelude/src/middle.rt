@@ -1,13 +1,10 @@
 // EXCLUDED_MIDDLE, as data: a formula that is chosen to deny `@x. T` or to make `p \/ ~p` hold.
 use crate::falsity::{P_FOLLOWS_P, P_FROM_F, TO_TRUE};
-use hol_prelude_derivations::conjunction::{FIRST, TRUE_AT_FIRST};
 use hol_prelude_derivations::derivation::Derivation;
 use hol_prelude_derivations::derivation::Derivation::{
     Abs, ApTerm, ApThm, Earlier, Inst, InstType, Pair, Term,
 };
-use hol_prelude_derivations::formulas::{
-    A, BOOL, BOOL_QUANTIFIER, F, FORALL_BOOL, IMP, NOT, P, P_IMP, Q, T, TEST, TESTED_TRUE,
-};
+use hol_prelude_derivations::formulas::{A, BOOL, BOOL_QUANTIFIER, F, IMP, NOT, P, P_IMP, Q, T};
 use hol_prelude_derivations::logic::{FORMULA, FORMULA_ALWAYS, FORMULA_PRED, NOT_P, SYM_NOT_P_IS};
 use hol_prelude_derivations::rule::PairRule::{DeductAntisym, EqMp, MkComb, Trans};
 use hol_prelude_derivations::rule::TermRule::{Assume, Beta, Refl};
@@ -15,9 +12,10 @@ use hol_prelude_derivations::sketch::TermSketch;
 use hol_prelude_derivations::sketch::TermSketch::{
     Abstraction, Combination, Constant, Equation, Formula,
 };
-use hol_prelude_derivations::truth::{EARLIER_TRUTH, EQ_BOOL, REFL_T};
-use hol_prelude_laws::disjunction::{FORMULA_PRED_X, GENERALIZES_FORMULA, OR, P_OR, P_OR_Q};
-use hol_prelude_laws::laws::{CHOSEN, DISCHARGE, FIRST_OF_TESTS, FROM_TRUE, T_IMP, U, V};
+use hol_prelude_derivations::truth::{EQ_BOOL, REFL_T};
+use hol_prelude_laws::disjunction::{OR, P_OR, P_OR_Q};
+use hol_prelude_laws::laws::CHOSEN;
+use hol_prelude_laws::{discharge_true, eqt_intro, generalize, true_imp};
 
 // p |- p \/ ~p <=> T
 pub(crate) const P_OR_Q_FROM_P: Derivation = Earlier(41);
@@ -50,10 +48,7 @@ const P_OR_NOT_P_SIDES: Derivation = Inst(
 pub(crate) const MIDDLE_TRUE_FROM_P: Derivation = Pair(
     EqMp,
     &P_OR_NOT_P_SIDES,
-    &ApThm(
-        &Abs(&Q, &Pair(DeductAntisym, &P_OR_Q_FROM_P, &EARLIER_TRUTH)),
-        &NOT_P,
-    ),
+    &ApThm(&Abs(&Q, &eqt_intro!(P_OR_Q_FROM_P)), &NOT_P),
 );
 
 // |- (((@x. T) <=> F) <=> c ==> p \/ ~p) <=> p \/ ~p, with @x. (((@x. T) <=> F) <=> x ==> p \/ ~p) <=> p \/ ~p for c
@@ -76,24 +71,7 @@ const DECIDES_X: TermSketch = Combination(&DECIDES, &FORMULA);
 
 const BETA_DECIDES: Derivation = Term(Beta, &DECIDES_X);
 
-const DENIAL_FOLLOWS: Derivation = ApThm(
-    &ApTerm(
-        &IMP,
-        &Pair(DeductAntisym, &Term(Refl, &ANY_IS_F), &EARLIER_TRUTH),
-    ),
-    &P_OR_NOT_P,
-);
-
-const DENIAL_DECIDES: Derivation = Pair(
-    Trans,
-    &DENIAL_FOLLOWS,
-    &Inst(
-        &P_OR_NOT_P,
-        &Q,
-        &FROM_TRUE,
-        &Equation(&Combination(&T_IMP, &P_OR_NOT_P), &P_OR_NOT_P),
-    ),
-);
+const DENIAL_DECIDES: Derivation = true_imp!(P_OR_NOT_P, eqt_intro!(Term(Refl, &ANY_IS_F)));
 
 const DENIAL_DECIDES_MEANS: TermSketch = Equation(
     &Combination(
@@ -110,7 +88,7 @@ const FORMULA_CHOSEN: Derivation = InstType(
     &A,
     &CHOSEN,
     &Combination(
-        &Combination(&IMP, &FORMULA_PRED_X),
+        &Combination(&IMP, &Combination(&FORMULA_PRED, &FORMULA)),
         &Combination(&FORMULA_PRED, &Combination(&FORMULA_CHOICE, &FORMULA_PRED)),
     ),
 );
@@ -131,29 +109,15 @@ const DECIDER_CHOSEN_AT: Derivation = Inst(
     &Combination(&Combination(&IMP, &DECIDES_DENIAL), &DECIDES_DECIDER),
 );
 
-const DECIDER_IMP: Derivation = ApTerm(
-    &IMP,
-    &Pair(
-        Trans,
-        &Inst(
-            &ANY_IS_F,
-            &FORMULA,
-            &BETA_DECIDES,
-            &Equation(&DECIDES_DENIAL, &DENIAL_DECIDES_MEANS),
-        ),
-        &Pair(DeductAntisym, &DENIAL_DECIDES, &EARLIER_TRUTH),
-    ),
-);
-
-const DECIDER_IS: Derivation = Pair(
+const DECIDES_DENIAL_TRUE: Derivation = Pair(
     Trans,
-    &ApThm(&DECIDER_IMP, &DECIDES_DECIDER),
     &Inst(
-        &DECIDES_DECIDER,
-        &Q,
-        &FROM_TRUE,
-        &Equation(&Combination(&T_IMP, &DECIDES_DECIDER), &DECIDES_DECIDER),
+        &ANY_IS_F,
+        &FORMULA,
+        &BETA_DECIDES,
+        &Equation(&DECIDES_DENIAL, &DENIAL_DECIDES_MEANS),
     ),
+    &eqt_intro!(DENIAL_DECIDES),
 );
 
 const DECIDER_DENIES: TermSketch = Equation(&ANY_IS_F, &DECIDER);
@@ -170,7 +134,11 @@ pub(crate) const MIDDLE_CHOSEN: Derivation = Pair(
         &BETA_DECIDES,
         &Equation(&DECIDES_DECIDER, &Equation(&DECIDER_LEADS, &P_OR_NOT_P)),
     ),
-    &Pair(EqMp, &DECIDER_IS, &DECIDER_CHOSEN_AT),
+    &Pair(
+        EqMp,
+        &true_imp!(DECIDES_DECIDER, DECIDES_DENIAL_TRUE),
+        &DECIDER_CHOSEN_AT,
+    ),
 );
 
 // ((@x. T) <=> F) <=> c |- p \/ ~p <=> T
@@ -192,7 +160,7 @@ const EACH_DECIDES: Derivation = Abs(
     &Pair(
         Trans,
         &Pair(MkComb, &ApTerm(&EQ_BOOL, &X_LEADS_TRUE), &MIDDLE_TRUE),
-        &Pair(DeductAntisym, &REFL_T, &EARLIER_TRUTH),
+        &eqt_intro!(REFL_T),
     ),
 );
 
@@ -225,92 +193,16 @@ const NOT_P_FROM_DECIDER: Derivation = Pair(
 
 pub(crate) const MIDDLE_TRUE_FROM_DECIDER: Derivation = Pair(
     Trans,
-    &ApTerm(
-        &P_OR,
-        &Pair(DeductAntisym, &NOT_P_FROM_DECIDER, &EARLIER_TRUTH),
-    ),
+    &ApTerm(&P_OR, &eqt_intro!(NOT_P_FROM_DECIDER)),
     &Earlier(40),
 );
 
 // |- p \/ ~p
-const MIDDLE_TESTS_TRUE: Derivation = Abs(
-    &TEST,
-    &Pair(
-        MkComb,
-        &ApTerm(
-            &TEST,
-            &Pair(DeductAntisym, &ASSUME_DECIDER_DENIES, &EARLIER_TRUTH),
-        ),
-        &Earlier(44),
-    ),
-);
-
-const TEST_DECIDER_DENIES: TermSketch = Combination(&TEST, &DECIDER_DENIES);
-
-const MIDDLE_TESTED: TermSketch = Abstraction(
-    &TEST,
-    &Combination(&TEST_DECIDER_DENIES, &P_OR_NOT_P),
-);
-
-const MIDDLE_TESTS: TermSketch = Equation(&MIDDLE_TESTED, &TESTED_TRUE);
-
-const MIDDLE_OPEN_TESTED: TermSketch = Abstraction(&TEST, &Combination(&TEST_DECIDER_DENIES, &V));
-
-const MIDDLE_OPEN_FIRST: Derivation = Inst(
-    &DECIDER_DENIES,
-    &U,
-    &FIRST_OF_TESTS,
-    &Equation(
-        &Equation(&Combination(&MIDDLE_OPEN_TESTED, &FIRST), &TRUE_AT_FIRST),
-        &DECIDER_DENIES,
-    ),
-);
-
-const MIDDLE_FIRST: Derivation = Inst(
-    &P_OR_NOT_P,
-    &V,
-    &MIDDLE_OPEN_FIRST,
-    &Equation(
-        &Equation(&Combination(&MIDDLE_TESTED, &FIRST), &TRUE_AT_FIRST),
-        &DECIDER_DENIES,
-    ),
-);
-
-const MIDDLE_IS_PREMISE: Derivation = Pair(
-    DeductAntisym,
-    &MIDDLE_TESTS_TRUE,
-    &Pair(
-        EqMp,
-        &MIDDLE_FIRST,
-        &ApThm(&Term(Assume, &MIDDLE_TESTS), &FIRST),
-    ),
-);
-
-const MIDDLE_OPEN_DISCHARGE: Derivation = Inst(
-    &DECIDER_DENIES,
-    &U,
-    &DISCHARGE,
-    &Equation(
-        &Equation(
-            &Equation(&MIDDLE_OPEN_TESTED, &TESTED_TRUE),
-            &DECIDER_DENIES,
-        ),
-        &Combination(&DECIDER_DENIES_IMP, &V),
-    ),
-);
-
-const DECIDER_LEADS_HOLDS: Derivation = Pair(
+pub(crate) const EXCLUDED_MIDDLE: Derivation = Pair(
     EqMp,
-    &Inst(
-        &P_OR_NOT_P,
-        &V,
-        &MIDDLE_OPEN_DISCHARGE,
-        &Equation(&Equation(&MIDDLE_TESTS, &DECIDER_DENIES), &DECIDER_LEADS),
-    ),
-    &MIDDLE_IS_PREMISE,
+    &Earlier(43),
+    &discharge_true!(DECIDER_DENIES, P_OR_NOT_P, Earlier(44)),
 );
-
-pub(crate) const EXCLUDED_MIDDLE: Derivation = Pair(EqMp, &Earlier(43), &DECIDER_LEADS_HOLDS);
 
 // |- !t. t \/ ~t
 const TRUTH_VALUE: TermSketch = Formula("t");
@@ -323,16 +215,9 @@ const EACH_T_OR_NOT_T: TermSketch = Abstraction(
     ),
 );
 
-pub(crate) const EXCLUDED_MIDDLE_EACH: Derivation = Pair(
-    EqMp,
-    &Inst(
-        &EACH_T_OR_NOT_T,
-        &FORMULA_PRED,
-        &GENERALIZES_FORMULA,
-        &Equation(
-            &Equation(&EACH_T_OR_NOT_T, &FORMULA_ALWAYS),
-            &Combination(&FORALL_BOOL, &EACH_T_OR_NOT_T),
-        ),
-    ),
-    &Abs(&P, &Pair(DeductAntisym, &Earlier(52), &EARLIER_TRUTH)),
+pub(crate) const EXCLUDED_MIDDLE_EACH: Derivation = generalize!(
+    BOOL,
+    P,
+    EACH_T_OR_NOT_T,
+    Earlier(52)
 );

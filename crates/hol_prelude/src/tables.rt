@@ -1,7 +1,7 @@
 // The tables of the theorems that stand when a script begins, and of the laws among them.
 use crate::conjunction::{AND_IS_AND, T_AND_T_HOLDS};
 use crate::existence::{CHOOSE, EXISTS_RULE, EXISTS_UNFOLDED};
-use crate::falsity::{P_IMPLIES_P, P_OR_TRUE_EQUATION, SELF_DENIAL};
+use crate::falsity::{P_OR_TRUE_EQUATION, SELF_DENIAL};
 use crate::middle::{
     EXCLUDED_MIDDLE, EXCLUDED_MIDDLE_EACH, MIDDLE_CHOSEN, MIDDLE_TRUE_FROM_DECIDER,
     MIDDLE_TRUE_FROM_P, P_OR_Q_FROM_P,
@@ -19,7 +19,8 @@ use hol_prelude_derivations::truth::{EQT_ELIM, EQT_INTRO, TRUTH};
 use hol_prelude_laws::choice::{CHOOSES, ETA_AX, SELECT_AX};
 use hol_prelude_laws::disjunction::{DISJ_CASES, DISJ_P, DISJ_Q, OR_UNFOLDED, SYM_P_OR_Q_IS};
 use hol_prelude_laws::laws::{
-    EACH_HOLDS_AT_X, FIRST_IS_U, IMP_TRUE_EQUATION, T_IMP_Q_IS_Q, TESTS_DISCHARGE, TRUE_EQUATION,
+    EACH_HOLDS_AT_X, FIRST_IS_U, IMP_TRUE_EQUATION, P_IMPLIES_P, T_IMP_Q_IS_Q, TESTS_DISCHARGE,
+    TRUE_EQUATION,
 };
 
 /// The number of the first law of the table. Laws are cited by later derivations alone.

@@ -2,27 +2,18 @@
 use crate::derivation::Derivation;
 use crate::derivation::Derivation::{Abs, ApTerm, ApThm, Earlier, Inst, Pair, Sym, Term};
 use crate::formulas::{AND_BODY, AND_P, P, P_AND_Q, Q, T, TEST, TESTED, TESTED_TRUE};
-use crate::numbers;
 use crate::rule::PairRule::{DeductAntisym, EqMp, MkComb, Trans};
 use crate::rule::TermRule::{Assume, Beta};
 use crate::sketch::TermSketch;
 use crate::sketch::TermSketch::{Abstraction, Combination, Equation};
 use crate::truth::{EARLIER_TRUTH, EQ_BOOL};
+use crate::{numbers, unfolded};
 
 // |- p /\ q <=> (\f. f p q) = (\f. f T T): AND_DEF at p and q
-const AND_AT_P_Q: Derivation = ApThm(
-    &Pair(
-        Trans,
-        &ApThm(&Earlier(numbers::AND_DEF), &P),
-        &Term(Beta, &Combination(&AND_BODY, &P)),
-    ),
-    &Q,
-);
-
-pub const AND_UNFOLDED: Derivation = Pair(
-    Trans,
-    &AND_AT_P_Q,
-    &Term(Beta, &Combination(&AND_P, &Q)),
+pub const AND_UNFOLDED: Derivation = unfolded!(
+    unfolded!(Earlier(numbers::AND_DEF), AND_BODY, P),
+    AND_P,
+    Q
 );
 
 // p, q |- p /\ q
@@ -47,131 +38,111 @@ const BETA_TESTED: Derivation = Term(Beta, &Combination(&TESTED, &TEST));
 
 const BETA_TESTED_TRUE: Derivation = Term(Beta, &Combination(&TESTED_TRUE, &TEST));
 
+// \p q. p, or \p q. q
+macro_rules! projection {
+    ($part:expr) => {
+        Abstraction(&P, &Abstraction(&Q, &$part))
+    };
+}
+
+// |- (\p q. part) p q = part
+macro_rules! projected {
+    ($part:expr) => {
+        unfolded!(
+            Term(Beta, &Combination(&projection!($part), &P)),
+            Abstraction(&Q, &$part),
+            Q
+        )
+    };
+}
+
+// |- (\f. f p q) (\p q. part) = part
+macro_rules! tested_at {
+    ($part:expr) => {
+        Pair(
+            Trans,
+            &Inst(
+                &projection!($part),
+                &TEST,
+                &BETA_TESTED,
+                &Equation(
+                    &Combination(&TESTED, &projection!($part)),
+                    &Combination(&Combination(&projection!($part), &P), &Q),
+                ),
+            ),
+            &projected!($part),
+        )
+    };
+}
+
+// |- (\f. f T T) (\p q. part) = T: the part, and the part with T for p
+macro_rules! true_at {
+    ($part:expr, $part_at_t:expr) => {
+        Pair(
+            Trans,
+            &Inst(
+                &projection!($part),
+                &TEST,
+                &BETA_TESTED_TRUE,
+                &Equation(
+                    &Combination(&TESTED_TRUE, &projection!($part)),
+                    &Combination(&Combination(&projection!($part), &T), &T),
+                ),
+            ),
+            &Inst(
+                &T,
+                &Q,
+                &Inst(
+                    &T,
+                    &P,
+                    &projected!($part),
+                    &Equation(
+                        &Combination(&Combination(&projection!($part), &T), &Q),
+                        &$part_at_t,
+                    ),
+                ),
+                &Equation(
+                    &Combination(&Combination(&projection!($part), &T), &T),
+                    &T,
+                ),
+            ),
+        )
+    };
+}
+
+// p /\ q |- part: both tests at its projection
+macro_rules! conjunct {
+    ($projection:expr, $tested:expr, $is_true:expr) => {
+        Pair(
+            EqMp,
+            &$tested,
+            &Pair(
+                EqMp,
+                &Sym(&ApThm(&AGREE, &$projection)),
+                &Pair(EqMp, &Sym(&$is_true), &EARLIER_TRUTH),
+            ),
+        )
+    };
+}
+
 // p /\ q |- p: with \p q. p for f
-const FIRST_P: TermSketch = Abstraction(&Q, &P);
+pub const FIRST: TermSketch = projection!(P);
 
-pub const FIRST: TermSketch = Abstraction(&P, &FIRST_P);
-
-const FIRST_AT_P: TermSketch = Combination(&FIRST, &P);
-
-const FIRST_IS: Derivation = Pair(
-    Trans,
-    &ApThm(&Term(Beta, &FIRST_AT_P), &Q),
-    &Term(Beta, &Combination(&FIRST_P, &Q)),
-);
-
-pub const FIRST_TESTED: Derivation = Pair(
-    Trans,
-    &Inst(
-        &FIRST,
-        &TEST,
-        &BETA_TESTED,
-        &Equation(&Combination(&TESTED, &FIRST), &Combination(&FIRST_AT_P, &Q)),
-    ),
-    &FIRST_IS,
-);
+pub const FIRST_TESTED: Derivation = tested_at!(P);
 
 pub const TRUE_AT_FIRST: TermSketch = Combination(&TESTED_TRUE, &FIRST);
 
-const FIRST_AT_T: TermSketch = Combination(&FIRST, &T);
+pub const FIRST_TRUE: Derivation = true_at!(P, T);
 
-const FIRST_AT_T_T: TermSketch = Combination(&FIRST_AT_T, &T);
-
-const FIRST_IS_AT_T_T: Derivation = Inst(
-    &T,
-    &Q,
-    &Inst(
-        &T,
-        &P,
-        &FIRST_IS,
-        &Equation(&Combination(&FIRST_AT_T, &Q), &T),
-    ),
-    &Equation(&FIRST_AT_T_T, &T),
-);
-
-pub const FIRST_TRUE: Derivation = Pair(
-    Trans,
-    &Inst(
-        &FIRST,
-        &TEST,
-        &BETA_TESTED_TRUE,
-        &Equation(&TRUE_AT_FIRST, &FIRST_AT_T_T),
-    ),
-    &FIRST_IS_AT_T_T,
-);
-
-pub const CONJUNCT1: Derivation = Pair(
-    EqMp,
-    &FIRST_TESTED,
-    &Pair(
-        EqMp,
-        &Sym(&ApThm(&AGREE, &FIRST)),
-        &Pair(EqMp, &Sym(&FIRST_TRUE), &EARLIER_TRUTH),
-    ),
-);
+pub const CONJUNCT1: Derivation = conjunct!(FIRST, FIRST_TESTED, FIRST_TRUE);
 
 // p /\ q |- q: with \p q. q for f
-const SECOND_P: TermSketch = Abstraction(&Q, &Q);
+pub const SECOND: TermSketch = projection!(Q);
 
-pub const SECOND: TermSketch = Abstraction(&P, &SECOND_P);
-
-const SECOND_AT_P: TermSketch = Combination(&SECOND, &P);
-
-const SECOND_IS: Derivation = Pair(
-    Trans,
-    &ApThm(&Term(Beta, &SECOND_AT_P), &Q),
-    &Term(Beta, &Combination(&SECOND_P, &Q)),
-);
-
-pub const SECOND_TESTED: Derivation = Pair(
-    Trans,
-    &Inst(
-        &SECOND,
-        &TEST,
-        &BETA_TESTED,
-        &Equation(
-            &Combination(&TESTED, &SECOND),
-            &Combination(&SECOND_AT_P, &Q),
-        ),
-    ),
-    &SECOND_IS,
-);
+pub const SECOND_TESTED: Derivation = tested_at!(Q);
 
 pub const TRUE_AT_SECOND: TermSketch = Combination(&TESTED_TRUE, &SECOND);
 
-const SECOND_AT_T: TermSketch = Combination(&SECOND, &T);
+pub const SECOND_TRUE: Derivation = true_at!(Q, Q);
 
-const SECOND_AT_T_T: TermSketch = Combination(&SECOND_AT_T, &T);
-
-const SECOND_IS_AT_T_T: Derivation = Inst(
-    &T,
-    &Q,
-    &Inst(
-        &T,
-        &P,
-        &SECOND_IS,
-        &Equation(&Combination(&SECOND_AT_T, &Q), &Q),
-    ),
-    &Equation(&SECOND_AT_T_T, &T),
-);
-
-pub const SECOND_TRUE: Derivation = Pair(
-    Trans,
-    &Inst(
-        &SECOND,
-        &TEST,
-        &BETA_TESTED_TRUE,
-        &Equation(&TRUE_AT_SECOND, &SECOND_AT_T_T),
-    ),
-    &SECOND_IS_AT_T_T,
-);
-
-pub const CONJUNCT2: Derivation = Pair(
-    EqMp,
-    &SECOND_TESTED,
-    &Pair(
-        EqMp,
-        &Sym(&ApThm(&AGREE, &SECOND)),
-        &Pair(EqMp, &Sym(&SECOND_TRUE), &EARLIER_TRUTH),
-    ),
-);
+pub const CONJUNCT2: Derivation = conjunct!(SECOND, SECOND_TESTED, SECOND_TRUE);

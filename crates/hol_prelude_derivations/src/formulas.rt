@@ -48,7 +48,7 @@ pub const TRUE_BODY: TermSketch = Equation(&IDENTITY, &IDENTITY);
 // \p q. (\f. f p q) = (\f. f T T)
 pub const TEST: TermSketch = Variable("f", &BINARY);
 
-pub const TEST_P: TermSketch = Combination(&TEST, &P);
+const TEST_P: TermSketch = Combination(&TEST, &P);
 
 pub(crate) const TESTED: TermSketch = Abstraction(&TEST, &Combination(&TEST_P, &Q));
 
@@ -83,13 +83,13 @@ pub const X_PRED_X_IMP_Q: TermSketch = Abstraction(&X, &Combination(&PRED_X_IMP,
 
 pub const EACH_IMP_Q: TermSketch = Combination(&FORALL, &X_PRED_X_IMP_Q);
 
-pub const EACH_IMP_Q_IMP: TermSketch = Combination(&IMP, &EACH_IMP_Q);
+const EACH_IMP_Q_IMP: TermSketch = Combination(&IMP, &EACH_IMP_Q);
 
-pub const EACH_IMP_Q_IMP_Q: TermSketch = Combination(&EACH_IMP_Q_IMP, &Q);
+const EACH_IMP_Q_IMP_Q: TermSketch = Combination(&EACH_IMP_Q_IMP, &Q);
 
 pub const Q_EACH: TermSketch = Abstraction(&Q, &EACH_IMP_Q_IMP_Q);
 
-pub const FORALL_Q_EACH: TermSketch = Combination(&FORALL_BOOL, &Q_EACH);
+const FORALL_Q_EACH: TermSketch = Combination(&FORALL_BOOL, &Q_EACH);
 
 pub const EXISTS_BODY: TermSketch = Abstraction(&PRED, &FORALL_Q_EACH);
 
@@ -100,7 +100,7 @@ pub const P_IMP_R: TermSketch = Combination(&P_IMP, &R);
 
 pub const Q_IMP_R: TermSketch = Combination(&Combination(&IMP, &Q), &R);
 
-pub const Q_CASE: TermSketch = Combination(&IMP, &Q_IMP_R);
+const Q_CASE: TermSketch = Combination(&IMP, &Q_IMP_R);
 
 pub const Q_CASE_R: TermSketch = Combination(&Q_CASE, &R);
 
@@ -110,7 +110,7 @@ pub const BOTH_CASES: TermSketch = Combination(&P_CASE, &Q_CASE_R);
 
 pub const R_BOTH_CASES: TermSketch = Abstraction(&R, &BOTH_CASES);
 
-pub const FORALL_R_CASES: TermSketch = Combination(&FORALL_BOOL, &R_BOTH_CASES);
+const FORALL_R_CASES: TermSketch = Combination(&FORALL_BOOL, &R_BOTH_CASES);
 
 pub const OR_P: TermSketch = Abstraction(&Q, &FORALL_R_CASES);
 

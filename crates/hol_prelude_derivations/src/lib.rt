@@ -10,3 +10,4 @@ pub mod numbers;
 pub mod rule;
 pub mod sketch;
 pub mod truth;
+pub mod unfolding;

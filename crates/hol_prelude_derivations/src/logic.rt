@@ -5,27 +5,18 @@ use crate::formulas::{
     A, ALWAYS, BOOL, F, FALSE_BODY, FORALL, FORALL_BODY, FORALL_BOOL, IDENTITY, IMP_BODY, IMP_P,
     IS_ALWAYS, NOT, NOT_BODY, P, P_ABSORBS_Q, P_IMP, P_IMP_F, PRED, PRED_X, Q, T, UNARY, X,
 };
-use crate::numbers;
 use crate::rule::PairRule::{DeductAntisym, EqMp, Trans};
 use crate::rule::TermRule::{Assume, Beta, Refl};
 use crate::sketch::TermSketch;
 use crate::sketch::TermSketch::{Abstraction, Combination, Equation, Formula, Variable};
 use crate::truth::{ASSUME_P, EARLIER_TRUTH};
+use crate::{numbers, unfolded};
 
 // |- p ==> q <=> (p /\ q <=> p): IMP_DEF at p and q
-const IMP_AT_P_Q: Derivation = ApThm(
-    &Pair(
-        Trans,
-        &ApThm(&Earlier(numbers::IMP_DEF), &P),
-        &Term(Beta, &Combination(&IMP_BODY, &P)),
-    ),
-    &Q,
-);
-
-pub const IMP_UNFOLDED: Derivation = Pair(
-    Trans,
-    &IMP_AT_P_Q,
-    &Term(Beta, &Combination(&IMP_P, &Q)),
+pub const IMP_UNFOLDED: Derivation = unfolded!(
+    unfolded!(Earlier(numbers::IMP_DEF), IMP_BODY, P),
+    IMP_P,
+    Q
 );
 
 // p /\ q <=> p |- p ==> q
@@ -65,11 +56,7 @@ pub const MP_EQUATION: Derivation = Pair(
 );
 
 // |- (!) P <=> P = (\x. T): FORALL_DEF at P
-pub const FORALL_UNFOLDED: Derivation = Pair(
-    Trans,
-    &ApThm(&Earlier(numbers::FORALL_DEF), &PRED),
-    &Term(Beta, &Combination(&FORALL_BODY, &PRED)),
-);
+pub const FORALL_UNFOLDED: Derivation = unfolded!(Earlier(numbers::FORALL_DEF), FORALL_BODY, PRED);
 
 // P = (\x. T) |- (!) P
 pub const FORALL_PRED_IS: Derivation = Earlier(numbers::FORALL_UNFOLDED);
@@ -101,11 +88,7 @@ pub const SPEC: Derivation = Pair(
 );
 
 // |- ~p <=> p ==> F: NOT_DEF at p
-pub const NOT_UNFOLDED: Derivation = Pair(
-    Trans,
-    &ApThm(&Earlier(numbers::NOT_DEF), &P),
-    &Term(Beta, &Combination(&NOT_BODY, &P)),
-);
+pub const NOT_UNFOLDED: Derivation = unfolded!(Earlier(numbers::NOT_DEF), NOT_BODY, P);
 
 // p ==> F |- ~p
 const NOT_P_IS: Derivation = Earlier(numbers::NOT_UNFOLDED);
@@ -126,9 +109,9 @@ pub const FORMULA: TermSketch = Formula("x");
 
 pub const FORMULA_ALWAYS: TermSketch = Abstraction(&FORMULA, &T);
 
-pub const FORMULA_IS_ALWAYS: TermSketch = Equation(&FORMULA_PRED, &FORMULA_ALWAYS);
+const FORMULA_IS_ALWAYS: TermSketch = Equation(&FORMULA_PRED, &FORMULA_ALWAYS);
 
-pub const FORALL_FORMULA: TermSketch = Combination(&FORALL_BOOL, &FORMULA_PRED);
+const FORALL_FORMULA: TermSketch = Combination(&FORALL_BOOL, &FORMULA_PRED);
 
 pub const FORALL_FORMULA_IS: Derivation = InstType(
     &BOOL,

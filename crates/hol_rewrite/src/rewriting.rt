@@ -1,21 +1,17 @@
 // Rewriting at one place.
 ghost use Rattle.std.specs.Prelude.{◌≡◌, ◌⊎◌, true, false, Err, IfOk, IfErr};
-ghost use Rattle.std.specs.List.{list_all};
 ghost use Rattle.hol_model.specs.declared.fault.Fault.TheVariants.{Memory, TooLarge};
-ghost use Rattle.hol_model.specs.Terms.Measures.{nameless_within_limits};
 ghost use Rattle.hol_model.specs.Logic.KnownTerm.{is_known};
-ghost use Rattle.hol_model.specs.Derived.DerivedRules.{terms_of_theorem};
 ghost use Rattle.hol_model.specs.Rewrites.Rewriting.{Rewrites, Applies, IsRewritten, has_fitting_instance};
 ghost use Rattle.hol_journal.specs.Journal.{IsMade, theorem_in};
 ghost use Rattle.hol_prelude_derivations.specs.Derivations.{AreMade, theorems};
 ghost use Rattle.hol_journal.specs.Growth.{Continues};
 ghost use Rattle.hol_rewrite.specs.RuleSides.{AreEquations, sides_of_rules};
-ghost use Rattle.hol_rewrite.specs.Instances.{replacements_of, image_fits};
+ghost use Rattle.hol_rewrite.specs.Instances.{replacements_of};
 
 use crate::choice::Choice;
 use hol_equal::instance_known;
-use hol_journal::{Rec, Recorder};
-use hol_kernel::Thm;
+use hol_journal::{Rec, Recorder, within_limits};
 use hol_match::Match;
 use hol_model::Fault;
 use hol_terms::Term;
@@ -65,27 +61,4 @@ fn rule_instance(
     let made = instance_known(recorder, &found.types, &found.terms, rule)?;
     within_limits(recorder.thm(&made));
     Ok(made)
-}
-
-// A theorem's terms are within the limits. Nothing is computed: the clause is a law, for callers' proofs.
-fn within_limits(theorem: &Thm)
-    ensures { list_all nameless_within_limits (terms_of_theorem theorem.now) ≡ true }
-{
-    term_fits(theorem.concl());
-    terms_fit(theorem.hyps());
-}
-
-fn terms_fit(terms: &[Term])
-    ensures { list_all image_fits terms.now ≡ true }
-{
-    for term in terms {
-        term_fits(term);
-    }
-}
-
-fn term_fits(term: &Term)
-    ensures { image_fits term.now ≡ true }
-{
-    let _type = term.ty();
-    term.well_formed();
 }

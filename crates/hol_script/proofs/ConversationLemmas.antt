@@ -5,18 +5,18 @@ use Rattle.std.specs.Prelude.{IfSome}
 use Rattle.std.specs.Io.KnownBytes.{Consumes}
 use Rattle.std.proofs.KnownBytes.{Appends-nil}
 use Rattle.hol_model.specs.declared.fault.Fault.{Fault}
-use Rattle.hol_model.specs.declared.fault.Fault.TheVariants.{Memory, WriteFault}
+use Rattle.hol_model.specs.declared.fault.Fault.TheVariants.{Memory, ReadFault, WriteFault}
 use Rattle.hol_model.specs.declared.limits.TheConstants.{TEXT_BYTES_LIMIT}
 use Rattle.hol_model_sessions.specs.Script.{has_mark}
 use Rattle.hol_model_sessions.specs.ScriptSessions.{State, Tools, text_of_turns}
 use Rattle.hol_model_sessions.specs.Runs.{Counts, SourceUse, SinkUse}
 use Rattle.hol_script.specs.Runs.{Breaks, TellsFront, devices, source_use}
 use Rattle.hol_script.specs.RunLogs.{IsLogOver}
-use Rattle.hol_script.specs.Courses.{IsUnderwayAt, BreaksAnswers, BreaksTold, StopsEarly, reads_no_more, breaks_in_answer, breaks_at_end}
+use Rattle.hol_script.specs.Courses.{IsUnderwayAt, BreaksAnswers, BreaksTold, StopsEarly, StopsTold, reads_no_more, breaks_in_answer, breaks_at_end}
 use Rattle.hol_script.specs.Conversations.{TellsFirst, StopsBehind, Closes, in_input, in_answer, in_last_answer}
 use Rattle.hol_script.proofs.HeadlineLemmas.{breaks_told, unwritten}
 use Rattle.hol_script.proofs.EndLemmas.{breaks_off}
-use Rattle.hol_script.proofs.CourseLemmas.{all-answered}
+use Rattle.hol_script.proofs.CourseLemmas.{all-answered, front-here}
 
 -- what a source gave are the first of its bytes
 first-told : (failed : Bool) (told left : Option (List ℕ)) (read : List ℕ) → Consumes told left read → TellsFirst (source_use told failed) read
@@ -37,7 +37,7 @@ too-long (Some all) (Some rest) (Some end) read chunk first second longer =
 
 module _ (tools : Tools) where
   -- a front of what a run writes, whatever follows, is a front of what a run of all that the source had writes
-  pub front-told : (told left : Option (List ℕ)) (read : List ℕ) {written now : Option (List ℕ)} → Consumes told left read → ((more : List ℕ) → Breaks tools (read ++ more) written now)
+  front-told : (told left : Option (List ℕ)) (read : List ℕ) {written now : Option (List ℕ)} → Consumes told left read → ((more : List ℕ) → Breaks tools (read ++ more) written now)
       → BreaksTold tools told written now
   front-told None left read consumed breaks = record { script = read ++ []; read = tt; breaks = breaks [] }
   front-told (Some all) None read consumed breaks = absurd consumed
@@ -47,42 +47,58 @@ module _ (tools : Tools) where
     -- no more is read: all commands that were read are answered
     pub stopped : {after : Option (List ℕ)} {state : State} {line : ℕ} {rest : List ℕ} {counts : Counts} {names : List (List ℕ)} {out_failed : Bool} (fault : Fault)
         → IsUnderwayAt tools read written now state line rest counts names → has_mark rest ≡ false → StopsBehind (source_use told failed) after read fault
-        → StopsEarly tools (source_use told failed) after written now out_failed fault
-    stopped fault u waits stops = reads_no_more (record {
-      read = read;
-      turns = u.turns;
-      answers_read = record { came = first-told failed told left read consumed; within_limit = within; is_answered = all-answered tools u waits };
-      stops = stops;
-      wrote = u.wrote;
-    })
+        → (failed ≡ true → fault ≡ ReadFault) → out_failed ≡ false → StopsTold tools (source_use told failed) after written now out_failed fault
+    stopped fault u waits stops told_fault unfailed = record {
+      early = reads_no_more (record {
+        read = read;
+        turns = u.turns;
+        answers_read = record { came = first-told failed told left read consumed; within_limit = within; is_answered = all-answered tools u waits };
+        stops = stops;
+        wrote = u.wrote;
+      });
+      front = front-told told left read consumed (front-here tools u);
+      reader = told_fault;
+      writer = λ has_failed. cc;
+    }
 
     -- an answer was written in part
     pub answer-stopped : {after : Option (List ℕ)} {out_failed : Bool} {fault : Fault} → fault ≡ WriteFault → out_failed ≡ true → BreaksAnswers tools read written now
-        → StopsEarly tools (source_use told failed) after written now out_failed fault
-    answer-stopped is has_failed b = breaks_in_answer is has_failed (record {
-      read = read;
-      turns = b.turns;
-      answers_read = record { came = first-told failed told left read consumed; within_limit = within; is_answered = b.is_answered };
-      wrote = b.wrote;
-    })
+        → ((more : List ℕ) → Breaks tools (read ++ more) written now) → failed ≡ false → StopsTold tools (source_use told failed) after written now out_failed fault
+    answer-stopped is has_failed b front unfailed = record {
+      early = breaks_in_answer is has_failed (record {
+        read = read;
+        turns = b.turns;
+        answers_read = record { came = first-told failed told left read consumed; within_limit = within; is_answered = b.is_answered };
+        wrote = b.wrote;
+      });
+      front = front-told told left read consumed front;
+      reader = λ source_failed. cc;
+      writer = λ _. is;
+    }
+
+  unbegun-told : (told written : Option (List ℕ)) → BreaksTold tools told written written
+  unbegun-told None written = record { script = []; read = tt; breaks = unwritten tools [] written }
+  unbegun-told (Some all) written = record { script = all; read = refl; breaks = unwritten tools all written }
 
   -- nothing was read: there is no memory to begin
-  pub unbegun : {failed out_failed : Bool} (told after written : Option (List ℕ)) → StopsEarly tools (source_use told failed) after written written out_failed Memory
-  unbegun {failed} {out_failed} told after written = reads_no_more (record {
-    read = [];
-    turns = [];
-    answers_read = record { came = came told; within_limit = omega arith; is_answered = record { pieces = []; last = []; cuts = (refl, refl); session = tt } };
-    stops = inr (inr refl);
-    wrote = Appends-nil written;
-  })
+  pub unbegun : {failed out_failed : Bool} (told after written : Option (List ℕ)) → failed ≡ false → out_failed ≡ false
+      → StopsTold tools (source_use told failed) after written written out_failed Memory
+  unbegun {failed} {out_failed} told after written unread unfailed = record {
+    early = reads_no_more (record {
+      read = [];
+      turns = [];
+      answers_read = record { came = came told; within_limit = omega arith; is_answered = record { pieces = []; last = []; cuts = (refl, refl); session = tt } };
+      stops = inr (inr refl);
+      wrote = Appends-nil written;
+    });
+    front = unbegun-told told written;
+    reader = λ source_failed. cc;
+    writer = λ has_failed. cc;
+  }
     where
       came : (told : Option (List ℕ)) → TellsFirst (source_use told failed) []
       came None = tt
       came (Some all) = (all, refl)
-
-  pub unbegun-told : (told written : Option (List ℕ)) → BreaksTold tools told written written
-  unbegun-told None written = record { script = []; read = tt; breaks = unwritten tools [] written }
-  unbegun-told (Some all) written = record { script = all; read = refl; breaks = unwritten tools all written }
 
   pub front-walked : {told written now : Option (List ℕ)} → BreaksTold tools told written now → TellsFront told written now
   front-walked b = breaks_told tools b.script b.read b.breaks

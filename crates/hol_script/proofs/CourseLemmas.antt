@@ -7,6 +7,7 @@ use Rattle.std.specs.Prelude.{MatchOption, is_some}
 use Rattle.std.specs.Io.KnownBytes.{Appends}
 use Rattle.std.proofs.KnownBytes.{Appends-nil, Appends-trans}
 use Rattle.hol_model.proofs.Tests.{first_of_neither, second_of_neither}
+use Rattle.hol_model.specs.declared.limits.TheConstants.{TEXT_BYTES_LIMIT}
 use Rattle.hol_model_sessions.specs.Script.{begins_mark, has_mark, IsCut, Request, line_feeds, leading_line_feeds, is_blank_text, request_and, requested}
 use Rattle.hol_model_sessions.specs.Replies.{theorem_in, reply_text}
 use Rattle.hol_model_sessions.specs.ScriptSessions.{State, start, scope_in, Tools, Turn, Takes, Session, text_of_turn, text_of_turns, as_list}
@@ -61,27 +62,20 @@ waits-still read chunk at within waits =
     subst (λ l. has_mark l ≡ false) (sym same) waits
 
 -- no number is past the first place
-pub within-begun : (read : List ℕ) {course : Course} → IsBegun course → IsWithin read course
-within-begun read {course} b =
+pub within-begun : (read : List ℕ) {course : Course} → length read ≤ TEXT_BYTES_LIMIT → IsBegun course → IsWithin read course
+within-begun read {course} within b =
     let at : course.at ≡ 0 = b.at in
     let line : course.line ≡ 1 = b.line in
     let accepted : course.progress.summary.accepted ≡ 0 = ap (λ (s : Summary). s.accepted) b.summary in
     let refused : course.progress.summary.refused ≡ 0 = ap (λ (s : Summary). s.refused) b.summary in
     let printed : course.progress.summary.printed ≡ 0 = ap (λ (s : Summary). s.printed) b.summary in
-    record { manager = b.manager; place = omega arith; lines = omega arith; accepted = omega arith; refused = omega arith; printed = omega arith }
+    record { within_limit = within; manager = b.manager; place = omega arith; lines = omega arith; accepted = omega arith; refused = omega arith; printed = omega arith }
 
 -- where nothing was read, nothing waits
 pub waits-begun : (read : List ℕ) {course : Course} → IsBegun course → read ≡ [] → has_mark (drop course.at read) ≡ false
 waits-begun read {course} b none =
     let waits : has_mark (drop 0 read) ≡ false = subst (λ l. has_mark l ≡ false) (sym none) refl in
     subst (λ (at : ℕ). has_mark (drop at read) ≡ false) (sym b.at) waits
-
--- the places are among more bytes too
-pub within-more : (read chunk : List ℕ) {course : Course} → IsWithin read course → IsWithin (read ++ chunk) course
-within-more read chunk {course} w =
-    let longer : length (read ++ chunk) ≡ length read + length chunk = length-append read chunk in
-    let place : course.at ≤ length read = w.place in
-    record { manager = w.manager; place = omega arith; lines = w.lines; accepted = w.accepted; refused = w.refused; printed = w.printed }
 
 -- the test for a `;;` found none
 pub uncut : {A : Type 0} (bytes : List ℕ) (Cut : A → Type 0) (found : Option A) → MatchOption found (has_mark bytes ≡ false) Cut → is_some found ≡ false → has_mark bytes ≡ false

@@ -10,10 +10,3 @@ has-not-failed same = cc
 pub failure-told : {A : Type 0} {failed : Bool} (result : Result A Fault) → OnOk result (failed ≡ false) → IfErr result (λ fault. fault ≡ WriteFault) → failed ≡ true → IsErrOf result WriteFault
 failure-told (Ok answer) unfailed kinds has_failed = absurd (has-not-failed (sym unfailed ∙ has_failed))
 failure-told (Err fault) unfailed kinds has_failed = ap (λ (e : Fault). Err e) kinds
-
-same-fault : {A : Type 0} (fault other : Fault) → IsErrOf {T = A} {E = Fault} (Err fault) other → fault ≡ other
-same-fault fault other told = cc
-
--- what is told of a fault is told of it where it is passed on
-pub told-on : {A B : Type 0} (fault other : Fault) → IsErrOf {T = A} {E = Fault} (Err fault) other → IsErrOf {T = B} {E = Fault} (Err fault) other
-told-on fault other told = ap (λ (e : Fault). Err e) (same-fault fault other told)

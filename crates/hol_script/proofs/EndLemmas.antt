@@ -1,6 +1,6 @@
 -- How a run ends.
 use Rattle.std.proofs.Common.{◌≡◌, ℕ, zero, suc, ◌≤◌, ◌<◌, List, [], ◌∷◌, length, refl, sym, ap, subst, ◌⊎◌, inl, inr, arith, Bool, true, false, Ok, Err, Result, Option}
-use Rattle.std.specs.Prelude.{IfSome, IfErr, OnOk, IsErrOf, Contains}
+use Rattle.std.specs.Prelude.{IfSome, IfErr, OnOk, OnErr, IsErrOf, Contains}
 use Rattle.hol_model.specs.declared.fault.Fault.{Fault}
 use Rattle.hol_model.specs.declared.fault.Fault.TheVariants.{Memory, ReadFault, TooLong, WriteFault}
 use Rattle.hol_model.specs.declared.limits.TheConstants.{TEXT_BYTES_LIMIT}
@@ -82,10 +82,6 @@ module _ (tools : Tools) (source : SourceUse) (out log : SinkUse) where
       counted : ◌≡◌ {A = Result Counts Fault} (Ok (counts_of progress.summary)) (Ok (counts_after no_counts f.turns))
       counted = ap (λ (counts : Counts). Ok counts) f.counted
 
-      pub whole-unlogged : {wants_log : Bool} → wants_log ≡ false → log.IsUntouched → EndsWholeSo (Ok (counts_of progress.summary)) wants_log
-      whole-unlogged unwanted untouched =
-          subst (λ (w : Bool). EndsWholeSo (Ok (counts_of progress.summary)) w) (sym unwanted) (unasked (record { turns = f.turns; answers = counted; whole = whole; log = untouched }))
-
       over : {text : List ℕ} → IsLogOver (journal_of progress).theory (claims_listed progress) text → IsLogOver (last_state start f.turns).library.theory (claims_of_turns f.turns) text
       over {text = text} is = over-end progress f (λ theory claims. IsLogOver theory claims text) is
 
@@ -132,26 +128,26 @@ module _ (tools : Tools) (source : SourceUse) (out log : SinkUse) where
       log_ends (Ok done) writes listed broken long untouched = logs writes
       log_ends (Err fault) writes listed broken long untouched = log_fails fault listed broken long untouched
 
-      pub whole-in_log : {wants_log : Bool} (outcome : Result Unit Fault) → wants_log ≡ true
-          → OnOk outcome (WritesLog (journal_of progress) (claims_listed progress) log.before log.after)
+      -- the log was written, or is refused, or none was asked for
+      pub whole-logged : (wants_log : Bool) (outcome : Result Unit Fault) → (wants_log ≡ false → log.IsUntouched) → OnErr outcome (wants_log ≡ true)
+          → (wants_log ≡ true → OnOk outcome (WritesLog (journal_of progress) (claims_listed progress) log.before log.after))
           → IfErr outcome (Contains (WriteFault ∷ TooLong ∷ Memory ∷ []))
           → (IsErrOf outcome WriteFault → (log.has_failed ≡ true) × WritesFront (journal_of progress) (claims_listed progress) log.before log.after)
           → (IsErrOf outcome TooLong → IsLongLog (journal_of progress) (claims_listed progress))
           → ((IsErrOf outcome TooLong ⊎ IsErrOf outcome Memory) → log.IsUntouched) → EndsWholeSo (if_logged outcome (counts_of progress.summary)) wants_log
-      whole-in_log outcome wanted writes listed broken long untouched =
-          subst (λ (w : Bool). EndsWholeSo (if_logged outcome (counts_of progress.summary)) w) (sym wanted) (log_ends outcome writes listed broken long untouched)
+      whole-logged true outcome untouched asked writes listed broken long unwritten = log_ends outcome (writes refl) listed broken long unwritten
+      whole-logged false (Ok done) untouched asked writes listed broken long unwritten = unasked (record { turns = f.turns; answers = counted; whole = whole; log = untouched refl })
+      whole-logged false (Err fault) untouched asked writes listed broken long unwritten = cc
 
       -- as a run ends
-      pub ends-unlogged : {wants_log : Bool} → wants_log ≡ false → log.IsUntouched → EndsSo (Ok (counts_of progress.summary)) wants_log
-      ends-unlogged unwanted untouched = ends-as_run (whole-unlogged unwanted untouched)
-
-      pub ends-in_log : {wants_log : Bool} (outcome : Result Unit Fault) → wants_log ≡ true
-          → OnOk outcome (WritesLog (journal_of progress) (claims_listed progress) log.before log.after)
+      pub ends-logged : (wants_log : Bool) (outcome : Result Unit Fault) → (wants_log ≡ false → log.IsUntouched) → OnErr outcome (wants_log ≡ true)
+          → (wants_log ≡ true → OnOk outcome (WritesLog (journal_of progress) (claims_listed progress) log.before log.after))
           → IfErr outcome (Contains (WriteFault ∷ TooLong ∷ Memory ∷ []))
           → (IsErrOf outcome WriteFault → (log.has_failed ≡ true) × WritesFront (journal_of progress) (claims_listed progress) log.before log.after)
           → (IsErrOf outcome TooLong → IsLongLog (journal_of progress) (claims_listed progress))
           → ((IsErrOf outcome TooLong ⊎ IsErrOf outcome Memory) → log.IsUntouched) → EndsSo (if_logged outcome (counts_of progress.summary)) wants_log
-      ends-in_log outcome wanted writes listed broken long untouched = ends-as_run (whole-in_log outcome wanted writes listed broken long untouched)
+      ends-logged wants_log outcome untouched asked writes listed broken long unwritten =
+          ends-as_run (whole-logged wants_log outcome untouched asked writes listed broken long unwritten)
 
 -- what became of the log, where its sink tells
 pub logs-told : {failed : Bool} (progress : Progress) {before after : Option (List ℕ)} (outcome : Result Unit Fault)

@@ -2,7 +2,7 @@
 use Rattle.std.specs.Prelude.{◌≡◌, ℕ, ◌+◌, ◌≤◌, List, [], ◌++◌, length, drop, Bool, true, Option}
 use Rattle.std.specs.Io.KnownBytes.{Appends}
 use Rattle.hol_model.specs.declared.fault.Fault.{Fault}
-use Rattle.hol_model.specs.declared.fault.Fault.TheVariants.{WriteFault}
+use Rattle.hol_model.specs.declared.fault.Fault.TheVariants.{ReadFault, WriteFault}
 use Rattle.hol_model.specs.declared.limits.TheConstants.{TEXT_BYTES_LIMIT}
 use Rattle.hol_model.specs.Texts.KnownText.{Tells}
 use Rattle.hol_model_sessions.specs.Script.{Cuts, requested}
@@ -25,8 +25,9 @@ pub record IsBegun (course : Course) : Type 0 where
   pub at : course.at ≡ 0
   pub line : course.line ≡ 1
 
--- the place is one of the bytes that were read, and no number is past it
+-- no more bytes were read than a text may have, the place is one of them, and no number is past it
 pub record IsWithin (read : List ℕ) (course : Course) : Type 0 where
+  pub within_limit : length read ≤ TEXT_BYTES_LIMIT
   pub manager : IsManager course.progress.manager
   pub place : course.at ≤ length read
   pub lines : course.line ≤ course.at + 1
@@ -67,14 +68,13 @@ pub record BreaksAnswers (tools : Tools) (read : List ℕ) (written now : Option
 abbrev pub GoesOn : Tools → List ℕ → Option (List ℕ) → Option (List ℕ) → Course → Course → Type 0
 GoesOn tools read before now old new = (written : Option (List ℕ)) → IsUnderway tools read written before old → IsUnderway tools read written now new
 
--- what is underway breaks off within the answers to the bytes that were read
-abbrev pub BreaksOff : Tools → List ℕ → Option (List ℕ) → Option (List ℕ) → Course → Type 0
-BreaksOff tools read before now course = (written : Option (List ℕ)) → IsUnderway tools read written before course → BreaksAnswers tools read written now
-
--- what was written then is a front of what a run writes, whatever bytes follow
-abbrev pub BreaksFront : Tools → List ℕ → Option (List ℕ) → Option (List ℕ) → Course → Type 0
-BreaksFront tools read before now course =
-    (written : Option (List ℕ)) (more : List ℕ) → IsUnderway tools read written before course → Breaks tools (read ++ more) written now
+-- A write failed: what is underway breaks off within the answers to the bytes that were read, and what was written is a front of
+-- what a run writes, whatever bytes follow.
+pub record BreaksOff (tools : Tools) (read : List ℕ) (before now : Option (List ℕ)) (has_failed : Bool) (course : Course) (fault : Fault) : Type 0 where
+  pub kind : fault ≡ WriteFault
+  pub failed : has_failed ≡ true
+  pub answers : (written : Option (List ℕ)) → IsUnderway tools read written before course → BreaksAnswers tools read written now
+  pub front : (written : Option (List ℕ)) (more : List ℕ) → IsUnderway tools read written before course → Breaks tools (read ++ more) written now
 
 -- No more is read: each command whose `;;` was read is answered, and nothing else is.
 pub record IsStopped (tools : Tools) (source : SourceUse) (left written now : Option (List ℕ)) (fault : Fault) : Type 0 where
@@ -109,6 +109,13 @@ pub data StopsEarly (tools : Tools) (source : SourceUse) (left written now : Opt
   reads_no_more : IsStopped tools source left written now fault → StopsEarly tools source left written now has_failed fault
   breaks_in_answer : fault ≡ WriteFault → has_failed ≡ true → IsAnswerBroken tools source written now → StopsEarly tools source left written now has_failed fault
   breaks_at_end : fault ≡ WriteFault → has_failed ≡ true → IsRunBroken tools source.told written now → StopsEarly tools source left written now has_failed fault
+
+-- A conversation stops early. What it wrote is a front of what a run of all that the source had writes, and a device that failed is told.
+pub record StopsTold (tools : Tools) (source : SourceUse) (left written now : Option (List ℕ)) (has_failed : Bool) (fault : Fault) : Type 0 where
+  pub early : StopsEarly tools source left written now has_failed fault
+  pub front : BreaksTold tools source.told written now
+  pub reader : source.has_failed ≡ true → fault ≡ ReadFault
+  pub writer : has_failed ≡ true → fault ≡ WriteFault
 
 -- All was read and answered.
 pub record IsReadWhole (tools : Tools) (told written now : Option (List ℕ)) (progress : Progress) : Type 0 where

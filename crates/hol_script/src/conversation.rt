@@ -1,5 +1,5 @@
 // Reads a script as it comes, and answers each command before it reads on.
-ghost use Rattle.std.specs.Prelude.{◌≡◌, ◌≤◌, [], true, false, length, OnOk, OnErr, IfOk, IfErr, IsErrOf};
+ghost use Rattle.std.specs.Prelude.{◌≡◌, [], true, false, OnOk, OnErr, IfOk, IfErr, IsErrOf};
 ghost use Rattle.hol_model.specs.declared.fault.Fault.TheVariants.{ReadFault, WriteFault};
 ghost use Rattle.hol_model.specs.Texts.KnownText.{Tells};
 ghost use Rattle.hol_model_sessions.specs.Script.{has_mark};
@@ -8,7 +8,7 @@ ghost use Rattle.hol_script_manager.specs.Managers.{IsManager};
 ghost use Rattle.hol_script_manager.specs.Session.{session_tools};
 ghost use Rattle.hol_script.specs.Runs.{TellsFront, Leaves, answer_of, source_use, sink_use, devices};
 ghost use Rattle.hol_script.specs.RunLogs.{claims_listed, journal_of, IsLogOver, Logs};
-ghost use Rattle.hol_script.specs.Courses.{IsBegun, IsWithin, IsUnderway, StopsEarly, BreaksTold, IsReadWhole};
+ghost use Rattle.hol_script.specs.Courses.{IsBegun, IsWithin, IsUnderway, StopsTold, IsReadWhole};
 ghost use Rattle.hol_script.specs.Conversations.{Closes};
 
 use crate::course::Course;
@@ -35,14 +35,10 @@ fn answer_source<R: Source, W: Sink, H: Refiners>(
     ensures underway { OnOk result (IsUnderway (session_tools (H.refiners host.now) (H.conversions host.now)) read.new.items (W.contents writer.old) (W.contents writer.new) course.new) }
     ensures within { OnOk result (IsWithin read.new.items course.new) }
     ensures told { OnOk result (Tells (R.remaining reader.old) read.new.items) }
-    ensures within_limit { OnOk result (length read.new.items ≤ TEXT_BYTES_LIMIT) }
     ensures reader_unfailed { OnOk result (R.has_failed reader.new ≡ false) }
     ensures writer_unfailed { OnOk result (W.has_failed writer.new ≡ false) }
-    ensures err { IfErr result (StopsEarly (session_tools (H.refiners host.now) (H.conversions host.now))
+    ensures err { IfErr result (StopsTold (session_tools (H.refiners host.now) (H.conversions host.now))
         (source_use (R.remaining reader.old) (R.has_failed reader.new)) (R.remaining reader.new) (W.contents writer.old) (W.contents writer.new) (W.has_failed writer.new)) }
-    ensures front { OnErr result (BreaksTold (session_tools (H.refiners host.now) (H.conversions host.now)) (R.remaining reader.old) (W.contents writer.old) (W.contents writer.new)) }
-    ensures reader_told { R.has_failed reader.new ≡ true → IsErrOf result ReadFault }
-    ensures writer_told { W.has_failed writer.new ≡ true → IsErrOf result WriteFault }
 {
     let mut buffer = [0u8; 4096];
     'pulls: loop {
@@ -57,7 +53,7 @@ fn answer_source<R: Source, W: Sink, H: Refiners>(
             return Err(Fault::TooLong);
         }
         read.extend_from_slice(&buffer[..count])?;
-        course.answer_new(alloc, read, known, writer, host)?;
+        course.answer_read(alloc, read, known, writer, host)?;
     }
 }
 
@@ -75,11 +71,8 @@ fn answer_input<R: Source, W: Sink, H: Refiners>(
     ensures is_manager { IfOk result (λ progress. IsManager progress.manager) }
     ensures reader_unfailed { OnOk result (R.has_failed reader.new ≡ false) }
     ensures writer_unfailed { OnOk result (W.has_failed writer.new ≡ false) }
-    ensures err { IfErr result (StopsEarly (session_tools (H.refiners host.now) (H.conversions host.now))
+    ensures err { IfErr result (StopsTold (session_tools (H.refiners host.now) (H.conversions host.now))
         (source_use (R.remaining reader.old) (R.has_failed reader.new)) (R.remaining reader.new) (W.contents writer.old) (W.contents writer.new) (W.has_failed writer.new)) }
-    ensures front { OnErr result (BreaksTold (session_tools (H.refiners host.now) (H.conversions host.now)) (R.remaining reader.old) (W.contents writer.old) (W.contents writer.new)) }
-    ensures reader_told { R.has_failed reader.new ≡ true → IsErrOf result ReadFault }
-    ensures writer_told { W.has_failed writer.new ≡ true → IsErrOf result WriteFault }
 {
     let mut course = Course::new(alloc, wants_log)?;
     let mut read = Vec::new(alloc);
@@ -127,12 +120,6 @@ pub fn converse<R: Source, W: Sink, L: Sink, H: Refiners>(
     ensures manager { IfOk result (λ ended. IsManager ended.progress.manager) }
 {
     let progress = answer_input(alloc, reader, writer, wants_log, host)?;
-    if !wants_log {
-        return Ok(Ended {
-            progress,
-            logged: Ok(()),
-        });
-    }
-    let logged = write_log(alloc, &progress, log);
+    let logged = write_log(alloc, &progress, log, wants_log);
     Ok(Ended { progress, logged })
 }

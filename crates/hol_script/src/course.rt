@@ -5,12 +5,12 @@ ghost use Rattle.hol_model_sessions.specs.Script.{has_mark};
 ghost use Rattle.hol_script_manager.specs.Managers.{state_of, IsManager};
 ghost use Rattle.hol_script_manager.specs.Session.{session_tools};
 ghost use Rattle.hol_script.specs.Runs.{counts_of, names_of, Finishes, Breaks};
-ghost use Rattle.hol_script.specs.Courses.{IsBegun, IsWithin, IsUnderway, GoesOn, BreaksOff, BreaksFront};
+ghost use Rattle.hol_script.specs.Courses.{IsBegun, IsWithin, IsUnderway, GoesOn, BreaksOff};
 
 use crate::progress::Progress;
 use crate::writing::{write_answer, write_refusal};
 use hol_host::Refiners;
-use hol_model::{Fault, Sink, TEXT_BYTES_LIMIT};
+use hol_model::{Fault, Sink};
 use hol_script_commands::cut::{cut, is_blank_text, leading_line_feeds, line_feeds};
 use hol_script_manager::Refused;
 use std::alloc::Global;
@@ -56,17 +56,14 @@ impl Course {
         host: &H,
     ) -> Result<bool, Fault>
         requires unfailed { W.has_failed writer.old ≡ false }
-        requires within_limit { length read.now ≤ TEXT_BYTES_LIMIT }
         requires within { IsWithin read.now self.old }
         ensures within { OnOk result (IsWithin read.now self.new) }
         ensures further { IfOk result (λ answers. answers ≡ true → self.old.at < self.new.at) }
         ensures waits { IfOk result (λ answers. answers ≡ false → has_mark (drop self.new.at read.now) ≡ false) }
         ensures goes_on { OnOk result (GoesOn (session_tools (H.refiners host.now) (H.conversions host.now)) read.now (W.contents writer.old) (W.contents writer.new) self.old self.new) }
-        ensures breaks { OnErr result (BreaksOff (session_tools (H.refiners host.now) (H.conversions host.now)) read.now (W.contents writer.old) (W.contents writer.new) self.old) }
-        ensures front { OnErr result (BreaksFront (session_tools (H.refiners host.now) (H.conversions host.now)) read.now (W.contents writer.old) (W.contents writer.new) self.old) }
+        ensures err { IfErr result (BreaksOff (session_tools (H.refiners host.now) (H.conversions host.now)) read.now (W.contents writer.old) (W.contents writer.new)
+            (W.has_failed writer.new) self.old) }
         ensures unfailed { OnOk result (W.has_failed writer.new ≡ false) }
-        ensures failed { OnErr result (W.has_failed writer.new ≡ true) }
-        ensures kinds { IfErr result (λ fault. fault ≡ WriteFault) }
     {
         let Some((piece, _)) = cut(&read[self.at..]) else {
             return Ok(false);
@@ -82,33 +79,9 @@ impl Course {
         Ok(true)
     }
 
-    /// Answers each command whose `;;` was read.
-    pub(crate) fn answer_read<W: Sink, H: Refiners>(
-        &mut self,
-        alloc: Global,
-        read: &[u8],
-        writer: &mut W,
-        host: &H,
-    ) -> Result<(), Fault>
-        requires unfailed { W.has_failed writer.old ≡ false }
-        requires within_limit { length read.now ≤ TEXT_BYTES_LIMIT }
-        requires within { IsWithin read.now self.old }
-        ensures within { OnOk result (IsWithin read.now self.new) }
-        ensures waits { OnOk result (has_mark (drop self.new.at read.now) ≡ false) }
-        ensures goes_on { OnOk result (GoesOn (session_tools (H.refiners host.now) (H.conversions host.now)) read.now (W.contents writer.old) (W.contents writer.new) self.old self.new) }
-        ensures breaks { OnErr result (BreaksOff (session_tools (H.refiners host.now) (H.conversions host.now)) read.now (W.contents writer.old) (W.contents writer.new) self.old) }
-        ensures front { OnErr result (BreaksFront (session_tools (H.refiners host.now) (H.conversions host.now)) read.now (W.contents writer.old) (W.contents writer.new) self.old) }
-        ensures unfailed { OnOk result (W.has_failed writer.new ≡ false) }
-        ensures failed { OnErr result (W.has_failed writer.new ≡ true) }
-        ensures kinds { IfErr result (λ fault. fault ≡ WriteFault) }
-    {
-        while self.answer_next(alloc, read, writer, host)? {}
-        Ok(())
-    }
-
     /// Answers each command whose `;;` was read, where none had been read among so many of the bytes. A `;;` is sought behind
     /// these alone, so that a command that grows is not searched again each time.
-    pub(crate) fn answer_new<W: Sink, H: Refiners>(
+    pub(crate) fn answer_read<W: Sink, H: Refiners>(
         &mut self,
         alloc: Global,
         read: &[u8],
@@ -117,7 +90,6 @@ impl Course {
         host: &H,
     ) -> Result<(), Fault>
         requires unfailed { W.has_failed writer.old ≡ false }
-        requires within_limit { length read.now ≤ TEXT_BYTES_LIMIT }
         requires within { IsWithin read.now self.old }
         requires place { self.old.at ≤ known }
         requires known { known ≤ length read.now }
@@ -125,16 +97,15 @@ impl Course {
         ensures within { OnOk result (IsWithin read.now self.new) }
         ensures waits { OnOk result (has_mark (drop self.new.at read.now) ≡ false) }
         ensures goes_on { OnOk result (GoesOn (session_tools (H.refiners host.now) (H.conversions host.now)) read.now (W.contents writer.old) (W.contents writer.new) self.old self.new) }
-        ensures breaks { OnErr result (BreaksOff (session_tools (H.refiners host.now) (H.conversions host.now)) read.now (W.contents writer.old) (W.contents writer.new) self.old) }
-        ensures front { OnErr result (BreaksFront (session_tools (H.refiners host.now) (H.conversions host.now)) read.now (W.contents writer.old) (W.contents writer.new) self.old) }
+        ensures err { IfErr result (BreaksOff (session_tools (H.refiners host.now) (H.conversions host.now)) read.now (W.contents writer.old) (W.contents writer.new)
+            (W.has_failed writer.new) self.old) }
         ensures unfailed { OnOk result (W.has_failed writer.new ≡ false) }
-        ensures failed { OnErr result (W.has_failed writer.new ≡ true) }
-        ensures kinds { IfErr result (λ fault. fault ≡ WriteFault) }
     {
         if !has_new_mark(&read[self.at..], known - self.at) {
             return Ok(());
         }
-        self.answer_read(alloc, read, writer, host)
+        while self.answer_next(alloc, read, writer, host)? {}
+        Ok(())
     }
 
     /// Answers all that was read, once nothing more can be: each command whose `;;` was read, and what stands behind the last one,
@@ -147,7 +118,6 @@ impl Course {
         host: &H,
     ) -> Result<(), Fault>
         requires unfailed { W.has_failed writer.old ≡ false }
-        requires within_limit { length read.now ≤ TEXT_BYTES_LIMIT }
         requires within { IsWithin read.now self.old }
         ensures ok { OnOk result ((written : Option (List ℕ)) → IsUnderway (session_tools (H.refiners host.now) (H.conversions host.now)) read.now written (W.contents writer.old) self.old
             → Finishes (session_tools (H.refiners host.now) (H.conversions host.now)) read.now written (W.contents writer.new)
@@ -159,7 +129,7 @@ impl Course {
         ensures failed { OnErr result (W.has_failed writer.new ≡ true) }
         ensures kinds { IfErr result (λ fault. fault ≡ WriteFault) }
     {
-        self.answer_read(alloc, read, writer, host)?;
+        self.answer_read(alloc, read, self.at, writer, host)?;
         let rest = &read[self.at..];
         if is_blank_text(rest) {
             return Ok(());

@@ -43,16 +43,20 @@ fn run_script<W: Sink, H: Refiners>(
     Ok(course.progress)
 }
 
-/// Writes the log of the theorems that were printed.
+/// Writes the log of the theorems that were printed, where one is wanted. Refused: Memory; TooLong, where it is longer than the limit
+/// on texts; WriteFault, where the sink failed.
 pub(crate) fn write_log<L: Sink>(
     alloc: Global,
     progress: &Progress,
     log: &mut L,
+    wants_log: bool,
 ) -> Result<(), Fault>
     requires unfailed { L.has_failed log.old ≡ false }
     requires manager { IsManager progress.now.manager }
     requires named { HaveIdentifiers (claims_stored progress.now) }
-    ensures ok { OnOk result (WritesLog (journal_of progress.now) (claims_listed progress.now) (L.contents log.old) (L.contents log.new)) }
+    ensures unasked { wants_log ≡ false → log.new ≡ log.old }
+    ensures asked { OnErr result (wants_log ≡ true) }
+    ensures ok { wants_log ≡ true → OnOk result (WritesLog (journal_of progress.now) (claims_listed progress.now) (L.contents log.old) (L.contents log.new)) }
     ensures unfailed { OnOk result (L.has_failed log.new ≡ false) }
     ensures told { L.has_failed log.new ≡ true → IsErrOf result WriteFault }
     ensures write_fault { IsErrOf result WriteFault
@@ -61,6 +65,9 @@ pub(crate) fn write_log<L: Sink>(
     ensures unwritten { (IsErrOf result TooLong ⊎ IsErrOf result Memory) → log.new ≡ log.old }
     ensures refusals { IfErr result (Contains (WriteFault ∷ TooLong ∷ Memory ∷ [])) }
 {
+    if !wants_log {
+        return Ok(());
+    }
     let text = progress.log_text(alloc)?;
     write_all(log, text.as_slice())
 }
@@ -116,12 +123,6 @@ pub fn run<R: Source, W: Sink, L: Sink, H: Refiners>(
 {
     let script = read_all(alloc, reader)?;
     let progress = run_script(alloc, script.as_slice(), writer, wants_log, host)?;
-    if !wants_log {
-        return Ok(Ended {
-            progress,
-            logged: Ok(()),
-        });
-    }
-    let logged = write_log(alloc, &progress, log);
+    let logged = write_log(alloc, &progress, log, wants_log);
     Ok(Ended { progress, logged })
 }

@@ -23,12 +23,7 @@ pub(crate) fn prove(library: &mut Library, goal: &Goal, just: &Just) -> Result<R
 {
     journals_grow();
     libraries_continue();
-    let theorem = replay(
-        &mut library.recorder,
-        &library.logic,
-        &library.store,
-        just,
-        &[],
-    )?;
-    closed(&mut library.recorder, goal, &theorem)
+    let recorder = &mut library.recorder;
+    let theorem = replay(recorder, &library.logic, &library.store, just, &[])?;
+    closed(recorder, goal, &theorem)
 }

@@ -8,3 +8,4 @@ pub mod Sought
 pub mod VariableTypes
 pub mod Binders
 pub mod Outcomes
+pub mod Leaves

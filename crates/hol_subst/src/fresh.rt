@@ -7,7 +7,7 @@ ghost use Rattle.hol_model.specs.Terms.Substitution.{occurs_free, IsFirstFree, I
 ghost use Rattle.hol_model.specs.Terms.Substitution as spec;
 ghost use Rattle.hol_subst.specs.Replacements.{binders_of};
 ghost use Rattle.hol_subst.specs.Replacing.{term_after};
-ghost use Rattle.hol_subst.specs.Fresh.{IsFreshName, IsFreshBinder};
+ghost use Rattle.hol_subst.specs.Fresh.{IsFreshBinder};
 ghost use Rattle.hol_subst.specs.Outcomes.{variant_refusal};
 ghost use Rattle.hol_subst.specs.VariableTypes.{HasVariables, known_table};
 ghost use Rattle.hol_model.specs.Kernel.Outcome.{AnswersSuch};
@@ -78,27 +78,6 @@ pub(crate) fn fresh_binder(
     ensures typed { IfOk result (λ binder. type_of binder ≡ Some captured.entry.ty.now) }
     ensures err { IfErr result (λ fault. fault ≡ Memory) }
 {
-    let fresh = name_free_after(alloc, body, captured, &*passed, &*replacing, hint, &*known)?;
-    variable_of(alloc, fresh.as_str(), captured.ty)
-}
-
-// The name with so many primes that the variable of this name and type is not free in the term after the replacement.
-fn name_free_after(
-    alloc: Global,
-    body: &Term,
-    captured: Variable<'_>,
-    passed: &Passed<'_>,
-    replacing: &Replacing<'_>,
-    hint: Place,
-    known: &KnownVariables<'_>,
-) -> Result<String, Fault>
-    requires named { IsTrue (is_identifier captured.name.now) }
-    requires known { HasVariables (known_table known.now) body.now }
-    requires taken { occurs_free captured.name.now captured.ty.now (term_after replacing.now (binders_of passed.now) body.now) ≡ true }
-    ensures fresh { IfOk result (λ fresh. IsFreshName (term_after replacing.now (binders_of passed.now) body.now) captured.entry.name.now captured.entry.ty.now (string_bytes fresh)) }
-    ensures named { IfOk result (λ fresh. IsTrue (is_identifier (string_bytes fresh))) }
-    ensures err { IfErr result (λ fault. fault ≡ Memory) }
-{
     let mut fresh = with_prime(alloc, captured.name)?;
     while is_free_after(
         body,
@@ -113,7 +92,7 @@ fn name_free_after(
     ) {
         fresh.push_str("'")?;
     }
-    Ok(fresh)
+    variable_of(alloc, fresh.as_str(), captured.ty)
 }
 
 // The name with one prime.

@@ -1,11 +1,12 @@
 // The makers of a term's nodes: each answers the term or the node's first refusal.
-ghost use Rattle.std.specs.Prelude.{MatchOption, IsFalse, IsTrue, ◌≡◌, List, ℕ, Some, Ok, codes};
+ghost use Rattle.std.specs.Prelude.{MatchOption, IfOk, IfErr, IsFalse, IsTrue, ◌≡◌, List, ℕ, None, Some, Ok, codes};
+ghost use Rattle.hol_model.specs.declared.fault.Fault.TheVariants.{UnknownConst};
 ghost use Rattle.hol_model.specs.Terms.HolType.{HolType, type_eq};
 ghost use Rattle.hol_model.specs.Terms.Name as names;
 ghost use Rattle.hol_model.specs.Terms.NamedTerm.{variable, abstraction, constant, combination, equation, type_of};
 ghost use Rattle.hol_model.specs.Logic.Theory.{choice_name, choice_type};
 ghost use Rattle.hol_model.specs.Texts.TypeGrammar.{TypeTree, type_steps};
-ghost use Rattle.hol_model.specs.Texts.Reading.{Bindings, bound_type, bare_name, known_constant, fitting_type, quantifier_type, variable_meaning, constant_meaning, named_variable, well_typed, connective, truth_operation, infix_term, negation, join, bind, bare_constant, is_closed_type};
+ghost use Rattle.hol_model.specs.Texts.Reading.{Bindings, bound_type, bare_name, known_constant, fitting_type, quantifier_type, variable_meaning, constant_meaning, constant_at, named_variable, well_typed, connective, truth_operation, infix_term, negation, join, bind, bare_constant, is_closed_type};
 ghost use Rattle.hol_model.specs.Kernel.Outcome.{Answers};
 ghost use Rattle.hol_syntax.specs.Scope.{scope_of};
 ghost use Rattle.hol_syntax_grammar.specs.Views.{steps_of};
@@ -110,19 +111,33 @@ pub fn is_closed(ty: &Ty) -> bool
     }
 }
 
+// The generic type of a constant, which has to be known.
+fn generic_type<'a>(scope: &'a Scope, name: &str) -> Result<&'a Ty, Fault>
+    ensures ok { IfOk result (λ generic. Some generic.now ≡ (scope_of scope.now).generic_type name.now) }
+    ensures err { IfErr result (λ fault. (fault ≡ UnknownConst) × ((scope_of scope.now).generic_type name.now ≡ None)) }
+{
+    scope.const_type(name).ok_or(Fault::UnknownConst)
+}
+
+// The constant of this generic type at a type, which has to be an instance of it.
+fn constant_at(alloc: Global, generic: &Ty, name: &str, ty: &Ty) -> Result<Term, Fault>
+    requires { IsTrue (names.is_constant_name name.now) }
+    ensures { Answers result (constant_at (Some generic.now) name.now ty.now) }
+{
+    if !is_instance(generic, ty) {
+        return Err(Fault::NotInstance);
+    }
+    Term::mk_const(alloc, name, ty)
+}
+
 /// A negation.
 pub fn negate(alloc: Global, scope: &Scope, term: &Term) -> Result<Term, Fault>
     ensures { Answers result (negation (scope_of scope.now) term.now) }
 {
-    let Some(generic) = scope.const_type("~") else {
-        return Err(Fault::UnknownConst);
-    };
+    let generic = generic_type(scope, "~")?;
     let truth = Ty::boolean(alloc)?;
     let ty = Ty::fun(alloc, &truth, &truth)?;
-    if !is_instance(generic, &ty) {
-        return Err(Fault::NotInstance);
-    }
-    let operator = Term::mk_const(alloc, "~", &ty)?;
+    let operator = constant_at(alloc, generic, "~", &ty)?;
     apply(alloc, &operator, term)
 }
 
@@ -137,14 +152,9 @@ fn join_known(
     requires { IsTrue (names.is_constant_name name.now) }
     ensures { Answers result (connective (scope_of scope.now) name.now truth_operation (infix_term name.now truth_operation left.now right.now)) }
 {
-    let Some(generic) = scope.const_type(name) else {
-        return Err(Fault::UnknownConst);
-    };
+    let generic = generic_type(scope, name)?;
     let ty = shared_truth_operation(alloc, generic)?;
-    if !is_instance(generic, &ty) {
-        return Err(Fault::NotInstance);
-    }
-    let operator = Term::mk_const(alloc, name, &ty)?;
+    let operator = constant_at(alloc, generic, name, &ty)?;
     join_truths(alloc, &operator, left, right)
 }
 
@@ -211,13 +221,8 @@ fn constant(alloc: Global, scope: &Scope, bytes: &[u8], ty: &Ty) -> Result<Term,
     let Some(name) = constant_name(bytes) else {
         return Err(Fault::UnknownConst);
     };
-    let Some(generic) = scope.const_type(name) else {
-        return Err(Fault::UnknownConst);
-    };
-    if !is_instance(generic, ty) {
-        return Err(Fault::NotInstance);
-    }
-    Term::mk_const(alloc, name, ty)
+    let generic = generic_type(scope, name)?;
+    constant_at(alloc, generic, name, ty)
 }
 
 // A constant or a declared variable of this name.
@@ -281,9 +286,7 @@ fn quantify(
     ensures { (x : List ℕ) (ty : HolType) → binder.now ≡ variable x ty
         → Answers result (connective (scope_of scope.now) name.now (quantifier_type ty) (combination (constant name.now (quantifier_type ty)) (abstraction x ty body.now))) }
 {
-    let Some(generic) = scope.const_type(name) else {
-        return Err(Fault::UnknownConst);
-    };
+    let generic = generic_type(scope, name)?;
     let binder_type = binder.ty();
     if !is_quantifier_instance(generic, binder_type) {
         return Err(Fault::NotInstance);

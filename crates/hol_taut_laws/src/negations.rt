@@ -2,27 +2,22 @@
 use crate::sides::{ASSUME_P_IS_F, ASSUME_Q, ASSUME_Q_IS_F};
 use hol_prelude_derivations::conjunction::P_TRUE;
 use hol_prelude_derivations::derivation::Derivation;
-use hol_prelude_derivations::derivation::Derivation::{
-    ApTerm, ApThm, Earlier, Inst, Pair, Sym, Term,
-};
-use hol_prelude_derivations::formulas::{F, IMP, P, P_IMP, Q};
+use hol_prelude_derivations::derivation::Derivation::{ApTerm, Earlier, Pair, Sym, Term};
+use hol_prelude_derivations::formulas::{F, P, P_IMP, Q};
 use hol_prelude_derivations::logic::SYM_NOT_P_IS;
 use hol_prelude_derivations::numbers;
 use hol_prelude_derivations::rule::PairRule::{DeductAntisym, EqMp, Trans};
 use hol_prelude_derivations::rule::TermRule::Assume;
-use hol_prelude_derivations::sketch::TermSketch;
-use hol_prelude_derivations::sketch::TermSketch::{Combination, Equation};
+use hol_prelude_derivations::sketch::TermSketch::Equation;
 use hol_prelude_derivations::truth::ASSUME_P;
-use hol_prelude_laws::laws::{FROM_TRUE, T_IMP};
+use hol_prelude_laws::true_imp;
 
 // p |- ~p <=> F
-const P_IMP_F_IS_F: Derivation = Pair(
+pub(crate) const NOT_TRUE: Derivation = Pair(
     Trans,
-    &ApThm(&ApTerm(&IMP, &P_TRUE), &F),
-    &Inst(&F, &Q, &FROM_TRUE, &Equation(&Combination(&T_IMP, &F), &F)),
+    &Earlier(numbers::NOT_UNFOLDED),
+    &true_imp!(F, P_TRUE),
 );
-
-pub(crate) const NOT_TRUE: Derivation = Pair(Trans, &Earlier(numbers::NOT_UNFOLDED), &P_IMP_F_IS_F);
 
 // p <=> F |- ~p
 pub(crate) const P_FOLLOWS_P: Derivation = Earlier(42);

@@ -9,7 +9,8 @@ use hol_prelude_derivations::rule::PairRule::{DeductAntisym, EqMp, MkComb, Trans
 use hol_prelude_derivations::rule::TermRule::{Assume, Beta};
 use hol_prelude_derivations::sketch::TermSketch;
 use hol_prelude_derivations::sketch::TermSketch::{Abstraction, Combination, Equation};
-use hol_prelude_derivations::truth::{ASSUME_P, EARLIER_TRUTH, EQ_BOOL};
+use hol_prelude_derivations::truth::{ASSUME_P, EQ_BOOL};
+use hol_prelude_laws::eqt_intro;
 use hol_prelude_laws::laws::EQUALS_TRUE;
 
 // p <=> F |- p /\ q <=> F
@@ -44,10 +45,7 @@ pub(crate) const P_FROM_F: Derivation = Earlier(numbers::CONTR);
 const Q_FROM_F: Derivation = Pair(
     EqMp,
     &IDENTITY_AGREES_IS_Q,
-    &ApThm(
-        &Abs(&P, &Pair(DeductAntisym, &P_FROM_F, &EARLIER_TRUTH)),
-        &Q,
-    ),
+    &ApThm(&Abs(&P, &eqt_intro!(P_FROM_F)), &Q),
 );
 
 const Q_FROM_P: Derivation = Pair(EqMp, &Pair(DeductAntisym, &F_FROM_P, &Q_FROM_F), &F_FROM_P);

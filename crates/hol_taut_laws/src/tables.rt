@@ -1,11 +1,13 @@
 // The tables of the laws, in the order in which they are made.
 use crate::denial::NOT_FALSE_ELIM;
-use crate::discharged::{DISJUNCTION_DECIDES, P_IMPLIES_P};
+use crate::discharged::DISJUNCTION_DECIDES;
 use crate::disjunction::OR_FALSE_LEFT;
 use crate::negations::{IFF_FALSE_LEFT, IFF_TRUE_LEFT, IFF_TRUE_RIGHT, NOT_FALSE, NOT_TRUE};
 use crate::sides::{AND_FALSE_LEFT, AND_FALSE_RIGHT, IMP_FALSE_LEFT, IMP_TRUE_RIGHT};
 use hol_prelude_derivations::making::Making;
-use hol_prelude_laws::laws::{FIRST_IS_U, T_IMP_Q_IS_Q, TESTS_DISCHARGE, TRUE_EQUATION};
+use hol_prelude_laws::laws::{
+    FIRST_IS_U, P_IMPLIES_P, T_IMP_Q_IS_Q, TESTS_DISCHARGE, TRUE_EQUATION,
+};
 
 /// How many theorems of the prelude stand before the laws of `T` and `==>`, as among those that derivations cite by number.
 pub(crate) const CITED_FIRST: usize = 27;

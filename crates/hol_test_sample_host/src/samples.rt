@@ -4,8 +4,8 @@ use crate::host_functions::{
     circular, deep, foreign, guess, mute, nameless, presuming, renamed, shapeless, shared, starved,
     starved_conv, stranger, twin, twisted, vast, without_lemma, wrong,
 };
-use hol_host::{Converts, Equated, HostFail, Refines, Table};
-use hol_host_samples::{liar, liar2, peel, swap};
+use hol_host::{Beside, Converts, Equated, HostFail, Refines, Table};
+use hol_host_samples::peel;
 use hol_just::{Goal, Step};
 use hol_terms::Term;
 use std::alloc::Global;
@@ -14,8 +14,6 @@ use std::alloc::Global;
 #[derive(Clone, Copy)]
 pub enum Refiner {
     Peel,
-    Liar,
-    Liar2,
     Twin,
     Mute,
     Starved,
@@ -34,7 +32,6 @@ pub enum Refiner {
 /// A conversion of tests.
 #[derive(Clone, Copy)]
 pub enum Conversion {
-    Swap,
     Wrong,
     Starved,
     Twisted,
@@ -42,12 +39,9 @@ pub enum Conversion {
     Renamed,
 }
 
-/// The refiners, each under its name, and `peel` also under that of a refiner of the program's host.
-pub const REFINERS: [(&str, Refiner); 17] = [
-    ("peel", Refiner::Peel),
+/// The refiners, each under its name, and the sample `peel` under that of a refiner of the program's host.
+pub const REFINERS: [(&str, Refiner); 14] = [
     ("meson", Refiner::Peel),
-    ("liar", Refiner::Liar),
-    ("liar2", Refiner::Liar2),
     ("twin", Refiner::Twin),
     ("mute", Refiner::Mute),
     ("starved", Refiner::Starved),
@@ -64,8 +58,7 @@ pub const REFINERS: [(&str, Refiner); 17] = [
 ];
 
 /// The conversions, each under its name.
-pub const CONVERSIONS: [(&str, Conversion); 6] = [
-    ("swap", Conversion::Swap),
+pub const CONVERSIONS: [(&str, Conversion); 5] = [
     ("wrong", Conversion::Wrong),
     ("starved", Conversion::Starved),
     ("twisted", Conversion::Twisted),
@@ -77,8 +70,6 @@ impl Refines for Refiner {
     fn refine(self, alloc: Global, goal: &Goal) -> Result<Step, HostFail> {
         match self {
             Refiner::Peel => peel(alloc, goal),
-            Refiner::Liar => liar(alloc, goal),
-            Refiner::Liar2 => liar2(alloc, goal),
             Refiner::Twin => twin(alloc, goal),
             Refiner::Mute => mute(alloc, goal),
             Refiner::Starved => starved(alloc, goal),
@@ -99,7 +90,6 @@ impl Refines for Refiner {
 impl Converts for Conversion {
     fn convert(self, alloc: Global, term: &Term) -> Equated {
         match self {
-            Conversion::Swap => swap(alloc, term),
             Conversion::Wrong => wrong(alloc, term),
             Conversion::Starved => starved_conv(alloc, term),
             Conversion::Twisted => twisted(alloc, term),
@@ -110,10 +100,13 @@ impl Converts for Conversion {
 }
 
 /// The host of tests.
-pub type Samples = Table<'static, Refiner, Conversion>;
+pub type Samples = Beside<hol_host_samples::Samples, Table<'static, Refiner, Conversion>>;
 
-/// The sample refiners and conversions, and those of tests, under the names of `REFINERS` and `CONVERSIONS`.
-pub const SAMPLES: Samples = Table {
-    refiners: &REFINERS,
-    conversions: &CONVERSIONS,
+/// The samples of the program, and the refiners and conversions of tests under the names of `REFINERS` and `CONVERSIONS`.
+pub const SAMPLES: Samples = Beside {
+    first: hol_host_samples::SAMPLES,
+    second: Table {
+        refiners: &REFINERS,
+        conversions: &CONVERSIONS,
+    },
 };

@@ -1,9 +1,7 @@
 // Which entries a recorder keeps, and whether a run keeps them.
-use hol_device_adapters::FromRead;
 use hol_journal::{Inference, Recorder};
 use hol_model::Fault;
-use hol_script::run;
-use hol_test_sample_devices::Kept;
+use hol_test_sample_devices::run_kept;
 use hol_test_sample_host::SAMPLES;
 use std::alloc::Global;
 
@@ -73,18 +71,8 @@ fn forgets(alloc: Global) -> Result<bool, Fault> {
 
 // Whether a log could still be written behind a run of a script of one theorem, by whether the run was to write one.
 fn keeps_entries(alloc: Global, wants_log: bool) -> Result<bool, Fault> {
-    let mut reader = FromRead::new(SCRIPT);
-    let mut writer = Kept::new(alloc);
-    let mut log = Kept::new(alloc);
-    let ended = run(
-        alloc,
-        &mut reader,
-        &mut writer,
-        &mut log,
-        wants_log,
-        &SAMPLES,
-    )?;
-    Ok(ended.progress.manager.log_text(alloc, &[]).is_ok())
+    let ran = run_kept(alloc, SCRIPT, wants_log, &SAMPLES)?;
+    Ok(ran.ended.progress.manager.log_text(alloc, &[]).is_ok())
 }
 
 /// Prints which entries are kept.

@@ -2,11 +2,10 @@
 ghost use Rattle.std.specs.Prelude.{◌≡◌, false};
 
 use crate::counting::{conversions, refiners};
-use hol_device_adapters::FromRead;
 use hol_host::Table;
 use hol_model::{Fault, Source};
 use hol_script::{Ended, Summary, converse, run};
-use hol_test_sample_devices::{Drips, Kept};
+use hol_test_sample_devices::{Drips, Kept, run_kept};
 use hol_test_sample_host::SAMPLES;
 use std::alloc::Global;
 use std::cell::Cell;
@@ -103,9 +102,6 @@ pub(crate) fn run_dripping(alloc: Global, script: &[u8], setting: Setting) -> Le
 
 /// What a script writes over a host that counts its calls.
 pub(crate) fn run_counting(alloc: Global, script: &[u8]) -> Result<Vec<u8>, Fault> {
-    let mut reader = FromRead::new(script);
-    let mut writer = Kept::new(alloc);
-    let mut no_log = Kept::new(alloc);
     let calls = Cell::new(0u32);
     let refiners = refiners(&calls);
     let conversions = conversions(&calls);
@@ -113,9 +109,6 @@ pub(crate) fn run_counting(alloc: Global, script: &[u8]) -> Result<Vec<u8>, Faul
         refiners: &refiners,
         conversions: &conversions,
     };
-    let ended = run(alloc, &mut reader, &mut writer, &mut no_log, false, &host);
-    match ended {
-        Ok(_) => Ok(writer.bytes),
-        Err(fault) => Err(fault),
-    }
+    let ran = run_kept(alloc, script, false, &host)?;
+    Ok(ran.output)
 }

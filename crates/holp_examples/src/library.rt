@@ -3,40 +3,10 @@
 // on goals that it does not, with Pelletier's problems 18 to 52, 56, 57, 59 and 60, and one of Los.
 use hol_check::check;
 use hol_device_adapters::FromRead;
-use hol_model::Fault;
-use hol_script::run;
 use hol_tactics::TACTICS;
-use hol_test_sample_devices::Kept;
-use std::alloc::Global;
+use hol_test_sample_devices::{Ran, run_kept};
 use std::fs;
 use std::io::Write;
-
-// What a run has written.
-#[derive(Drop)]
-struct Written {
-    output: Vec<u8>,
-    log: Vec<u8>,
-}
-
-// Runs a text as a script over the host, with its log where one is wanted.
-fn run_text(alloc: Global, text: &str, wants_log: bool) -> Result<Written, Fault> {
-    let mut writer = Kept::new(alloc);
-    let mut log = Kept::new(alloc);
-    let mut reader = FromRead::new(text.as_bytes());
-    let ended = run(
-        alloc,
-        &mut reader,
-        &mut writer,
-        &mut log,
-        wants_log,
-        &TACTICS,
-    )?;
-    let _progress = ended.whole()?;
-    Ok(Written {
-        output: writer.bytes,
-        log: log.bytes,
-    })
-}
 
 // Puts the text of a script of the library behind others.
 fn append_script(rt: &HostRuntime, text: &mut String, name: &str) -> anyhow::Result<()> {
@@ -57,14 +27,15 @@ fn run_last(rt: &HostRuntime, names: &str) -> anyhow::Result<()> {
     for before in needed.split_whitespace() {
         append_script(rt, &mut text, before)?;
     }
-    let before = run_text(alloc, text.as_str(), false)?;
+    let Ran { output: before, .. } = run_kept(alloc, text.as_bytes(), false, &TACTICS)?;
     append_script(rt, &mut text, name)?;
-    let written = run_text(alloc, text.as_str(), true)?;
+    let Ran { ended, output, log } = run_kept(alloc, text.as_bytes(), true, &TACTICS)?;
+    ended.whole()?;
     println!(rt; "== {name}")?;
-    if let Some(own) = written.output.get(before.output.len()..) {
+    if let Some(own) = output.get(before.len()..) {
         rt.stdout().write_all(own)?;
     }
-    let claims = check(alloc, &mut FromRead::new(written.log.as_slice()))?;
+    let claims = check(alloc, &mut FromRead::new(log.as_slice()))?;
     println!(rt; "claims of its log: {}", claims.len())?;
     Ok(())
 }

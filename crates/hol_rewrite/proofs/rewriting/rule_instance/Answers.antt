@@ -1,5 +1,8 @@
 -- What the instance of the rule states, and what its refusal for size says.
-use Rattle.std.proofs.Common.{Ok, Err}
+use Rattle.std.proofs.Common.{◌≡◌, true, Ok, Err}
+use Rattle.std.specs.List.{list_all}
+use Rattle.hol_model.specs.Terms.Measures.{nameless_within_limits}
+use Rattle.hol_model.specs.Derived.DerivedRules.{terms_of_theorem}
 use Rattle.hol_rewrite.specs.Instances.{replacements_of}
 use Rattle.hol_rewrite.proofs.RuleInstances.{instance_derives, terms_known, instance_is, instance_fits, instance_past}
 use Rattle.hol_equal.proofs.StepLemmas.{passed_on}
@@ -39,4 +42,5 @@ returns-clause-fits c =
     let derives = instance_derives c.args.recorder.now.theory by c.deref.result.now c.deref-2.result.now rule term c.ty-type.result.now (Ok c.in_ok-made.made)
     c.deref.ensures.value c.deref-2.ensures.value c.requires.applies c.ty-type.ensures c.requires.known
     c.in_ok-made.ensures.derives in
-    instance_fits rule by c.in_ok-made.made.theorem (instance_is rule by c.in_ok-made.made.theorem derives) (rw c.thm-2.ensures at c.within_limits.ensures)
+    let within : list_all nameless_within_limits (terms_of_theorem c.thm-2.result.now) ≡ true = c.within_limits.ensures in
+    instance_fits rule by c.in_ok-made.made.theorem (instance_is rule by c.in_ok-made.made.theorem derives) (rw c.thm-2.ensures at within)

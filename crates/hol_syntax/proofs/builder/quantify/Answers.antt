@@ -14,7 +14,7 @@ returns-in_err-operator c = λ x ty is.
     c.if-not-eq.ensures.value in
     let same : c.ty-binder_type.result.now ≡ ty = binder_typed c.args.binder.now x ty _ is c.ty-binder_type.ensures in
     let Q : HolType → Type 0 = λ t. Answers (Err c.in_err-operator.field-0.0) (limited_constant c.args.name.now (quantifier_type t)) in
-    let known = quantifier_known (scope_of c.args.scope.now) c.args.name.now c.in-Some.generic.now _ c.args.binder.now c.args.body.now x ty c.in-Some.ensures c.ty-binder_type.ensures
+    let known = quantifier_known (scope_of c.args.scope.now) c.args.name.now c.in_ok-generic.generic.now _ c.args.binder.now c.args.body.now x ty c.in_ok-generic.ensures.ok c.ty-binder_type.ensures
     (sym c.if-not-is_quantifier_instance.ensures) is in
     let p = err_from_is_err_and c.from_residual-in_err-operator.result c.from_residual-in_err-operator.ensures.1 in
     rw (p.1, p.2)
@@ -25,7 +25,7 @@ pub returns-in_err-predicate : goal.returns-in_err-predicate
 returns-in_err-predicate c = λ x ty is.
     let body : type_eq bool_type c.ty-body_type.result.now ≡ true = ap (λ t. type_eq t c.ty-body_type.result.now) (truth-is c.in_ok-truth.truth c.in_ok-truth.ensures.outcome) ∙ sym
     c.if-not-eq.ensures.value in
-    let known = quantifier_known (scope_of c.args.scope.now) c.args.name.now c.in-Some.generic.now _ c.args.binder.now c.args.body.now x ty c.in-Some.ensures c.ty-binder_type.ensures
+    let known = quantifier_known (scope_of c.args.scope.now) c.args.name.now c.in_ok-generic.generic.now _ c.args.binder.now c.args.body.now x ty c.in_ok-generic.ensures.ok c.ty-binder_type.ensures
     (sym c.if-not-is_quantifier_instance.ensures) is in
     let p = err_from_is_err_and c.from_residual-in_err-predicate.result c.from_residual-in_err-predicate.ensures.1 in
     rw (p.1, p.2)
@@ -34,7 +34,7 @@ returns-in_err-predicate c = λ x ty is.
 
 pub returns : goal.returns
 returns c = λ x ty is.
-    let known = quantifier_known (scope_of c.args.scope.now) c.args.name.now c.in-Some.generic.now _ c.args.binder.now c.args.body.now x ty c.in-Some.ensures c.ty-binder_type.ensures
+    let known = quantifier_known (scope_of c.args.scope.now) c.args.name.now c.in_ok-generic.generic.now _ c.args.binder.now c.args.body.now x ty c.in_ok-generic.ensures.ok c.ty-binder_type.ensures
     (sym c.if-not-is_quantifier_instance.ensures) is in
     subst (λ w. Answers c.apply.result w) (sym known)
     (choice_made c.args.binder.now c.args.body.now c.in_ok-operator.operator c.in_ok-predicate.predicate x ty c.ty-binder_type.result.now c.args.name.now (λ t. bool_type) c.apply.result is

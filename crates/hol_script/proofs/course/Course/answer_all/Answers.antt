@@ -14,7 +14,7 @@ pub returns-in_err-answer_read-clause-err : goal.returns-in_err-answer_read-clau
 returns-in_err-answer_read-clause-err g c =
     let p = err_from_is_err_and c.from_residual.result c.from_residual.ensures.1 in
     rw p.1 (λ written u. subst (λ (bytes : List ℕ). Breaks (session_tools (g.H.Refiners.refiners c.args.host.now) (g.H.Converters.conversions c.args.host.now)) bytes written
-    (g.W.Sink.contents c.answer_read.new.writer)) (append-nil c.args.read.now) (c.in_err-answer_read.ensures.front written [] u))
+    (g.W.Sink.contents c.answer_read.new.writer)) (append-nil c.args.read.now) (c.in_err-answer_read.ensures.err.front written [] u))
 
 pub returns-then-is_blank_text-clause-ok : goal.returns-then-is_blank_text-clause-ok
 returns-then-is_blank_text-clause-ok g c = λ written u.

@@ -12,21 +12,19 @@ use Rattle.hol_script.proofs.CourseLemmas.{behind-at, passed, turned, answer-bro
 use Rattle.hol_script.proofs.course.Course.answer_next.Goals as goal
 use Rattle.hol_script.proofs.course.Course.answer_next.Goals.{then-not-is_blank_text+in_ok-write_answer, else-not-is_blank_text}
 
-pub returns-in_err-write_answer-clause-breaks : goal.returns-in_err-write_answer-clause-breaks
-returns-in_err-write_answer-clause-breaks g c =
+pub returns-in_err-write_answer-clause-err : goal.returns-in_err-write_answer-clause-err
+returns-in_err-write_answer-clause-err g c =
     let cut : IsCut (drop c.args.self.now.at c.args.read.now) c.in-Some.piece.now c.in-Some.field-0-1.now =
     subst (λ (left : List ℕ). IsCut left c.in-Some.piece.now c.in-Some.field-0-1.now) (take_rest c.args.read.now c.args.self.now.at) c.in-Some.ensures in
     let p = err_from_is_err_and c.from_residual.result c.from_residual.ensures.1 in
-    rw p.1 (λ written u. answer-broken (session_tools (g.H.Refiners.refiners c.args.host.now) (g.H.Converters.conversions c.args.host.now)) u c.in-Some.piece.now c.in-Some.field-0-1.now cut c.answer-answer.result
-    c.leading_line_feeds.result (sym c.if-not-is_blank_text.ensures) c.answer-answer.ensures.turns c.leading_line_feeds.ensures.count c.in_err-write_answer.ensures.err)
-
-pub returns-in_err-write_answer-clause-front : goal.returns-in_err-write_answer-clause-front
-returns-in_err-write_answer-clause-front g c =
-    let cut : IsCut (drop c.args.self.now.at c.args.read.now) c.in-Some.piece.now c.in-Some.field-0-1.now =
-    subst (λ (left : List ℕ). IsCut left c.in-Some.piece.now c.in-Some.field-0-1.now) (take_rest c.args.read.now c.args.self.now.at) c.in-Some.ensures in
-    let p = err_from_is_err_and c.from_residual.result c.from_residual.ensures.1 in
-    rw p.1 (λ written more u. run-broken (session_tools (g.H.Refiners.refiners c.args.host.now) (g.H.Converters.conversions c.args.host.now)) u c.in-Some.piece.now c.in-Some.field-0-1.now cut c.answer-answer.result
-    c.leading_line_feeds.result (sym c.if-not-is_blank_text.ensures) c.answer-answer.ensures.turns c.leading_line_feeds.ensures.count more c.in_err-write_answer.ensures.err)
+    rw (p.1, p.2) (record {
+      kind = c.in_err-write_answer.ensures.kinds;
+      failed = c.in_err-write_answer.ensures.failed;
+      answers = λ written u. answer-broken (session_tools (g.H.Refiners.refiners c.args.host.now) (g.H.Converters.conversions c.args.host.now)) u c.in-Some.piece.now c.in-Some.field-0-1.now cut c.answer-answer.result
+          c.leading_line_feeds.result (sym c.if-not-is_blank_text.ensures) c.answer-answer.ensures.turns c.leading_line_feeds.ensures.count c.in_err-write_answer.ensures.err;
+      front = λ written more u. run-broken (session_tools (g.H.Refiners.refiners c.args.host.now) (g.H.Converters.conversions c.args.host.now)) u c.in-Some.piece.now c.in-Some.field-0-1.now cut c.answer-answer.result
+          c.leading_line_feeds.result (sym c.if-not-is_blank_text.ensures) c.answer-answer.ensures.turns c.leading_line_feeds.ensures.count more c.in_err-write_answer.ensures.err;
+    })
 
 pub returns-clause-goes_on : goal.returns-clause-goes_on
 returns-clause-goes_on g c = λ written u.

@@ -18,7 +18,7 @@ use Rattle.hol_conv.proofs.Asking.{side-later, equation-later, carried, carried-
 use Rattle.hol_conv.proofs.Answering.{is-equation, reflects-leaf, first-part-refused, parts-too-deep, rand-refused, rator-refused, abs-refused}
 use Rattle.hol_conv.proofs.Arms.{argument-arm, function-arm, body-arm, parts-arm, try-arm, once-arm, once-answers, once-stops, depth-arm, depth-stops, thenc-on, thenc-off, thenc-equation}
 use Rattle.hol_conv.proofs.Arms.{link-on, link-off, link-stop, link-costs, link-equations, changed-arm, changed-makes, top-start, top-again, top-below, as-conv, sub-as-abs, starved-at}
-use Rattle.hol_conv.proofs.converting.«+converted».Goals as goal
+use Rattle.hol_conv.proofs.converting.Level.«+converted».Goals as goal
 
 pub converted-thenc-requires : goal.converted-thenc-requires
 converted-thenc-requires g t c =
@@ -36,16 +36,16 @@ converted-orelsec-requires g t c =
 
 pub converted-returns-in-Then-clause-converts : goal.converted-returns-in-Then-clause-converts
 converted-returns-in-Then-clause-converts g t c =
-    let whole = ap (stands_for (g.L.Leaves.means c.args.leaves.now)) c.in-Then.is ∙ then_stands (g.L.Leaves.means c.args.leaves.now) c.in-Then.first c.in-Then.others in
-    let first = ap (λ (first : Conv). thenc_of (g.L.Leaves.means c.args.leaves.now) first c.deref-in-Then.result.now) c.deref.ensures in
-    let others = ap (λ (others : List Conv). thenc_of (g.L.Leaves.means c.args.leaves.now) c.in-Then.first.value others) c.deref-in-Then.ensures.value in
+    let whole = ap (stands_for (g.L.Leaves.means c.args.self.now.leaves.now)) c.in-Then.is ∙ then_stands (g.L.Leaves.means c.args.self.now.leaves.now) c.in-Then.first c.in-Then.others in
+    let first = ap (λ (first : Conv). thenc_of (g.L.Leaves.means c.args.self.now.leaves.now) first c.deref-in-Then.result.now) c.deref.ensures in
+    let others = ap (λ (others : List Conv). thenc_of (g.L.Leaves.means c.args.self.now.leaves.now) c.in-Then.first.value others) c.deref-in-Then.ensures.value in
     as-conv (whole ∙ sym (first ∙ others)) c.thenc.ensures.converts
 
 pub converted-returns-in-OrElse-clause-converts : goal.converted-returns-in-OrElse-clause-converts
 converted-returns-in-OrElse-clause-converts g t c =
-    let whole = ap (stands_for (g.L.Leaves.means c.args.leaves.now)) c.in-OrElse.is ∙ or_else_stands (g.L.Leaves.means c.args.leaves.now) c.in-OrElse.first c.in-OrElse.others in
-    let first = ap (λ (first : Conv). orelsec_of (g.L.Leaves.means c.args.leaves.now) first c.deref-in-OrElse-2.result.now) c.deref-in-OrElse.ensures in
-    let others = ap (λ (others : List Conv). orelsec_of (g.L.Leaves.means c.args.leaves.now) c.in-OrElse.first.value others) c.deref-in-OrElse-2.ensures.value in
+    let whole = ap (stands_for (g.L.Leaves.means c.args.self.now.leaves.now)) c.in-OrElse.is ∙ or_else_stands (g.L.Leaves.means c.args.self.now.leaves.now) c.in-OrElse.first c.in-OrElse.others in
+    let first = ap (λ (first : Conv). orelsec_of (g.L.Leaves.means c.args.self.now.leaves.now) first c.deref-in-OrElse-2.result.now) c.deref-in-OrElse.ensures in
+    let others = ap (λ (others : List Conv). orelsec_of (g.L.Leaves.means c.args.self.now.leaves.now) c.in-OrElse.first.value others) c.deref-in-OrElse-2.ensures.value in
     as-conv (whole ∙ sym (first ∙ others)) c.orelsec.ensures.converts
 
 pub converted-returns-in-Try-clause-converts : goal.converted-returns-in-Try-clause-converts
@@ -71,7 +71,7 @@ thenc-loop-other-init g t c =
 
 pub thenc-converted-next-requires : goal.thenc-converted-next-requires
 thenc-converted-next-requires g t c =
-    let asked = asks-now c.right_of-right.result.now (g.met.L.Leaves.stays_ready c.args.leaves.now) c.requires.asked c.loop-other.invariant.1 c.loop-other.invariant.2 c.right_of-right.ensures.known in
+    let asked = asks-now c.right_of-right.result.now (g.met.L.Leaves.stays_ready c.args.self.now.leaves.now) c.requires.asked c.loop-other.invariant.1 c.loop-other.invariant.2 c.right_of-right.ensures.known in
     let le = size_in c.args.others.now c.loop-other.other-index c.other-item.result (omega arith) c.other-item.is in
     search rules
 
@@ -98,13 +98,13 @@ thenc-then-requires g t c =
 pub thenc-returns-in_err-made-2-clause-converts : goal.thenc-returns-in_err-made-2-clause-converts
 thenc-returns-in_err-made-2-clause-converts g t c =
     let p = err_from_is_err_and c.from_residual-in_err-made-2.result c.from_residual-in_err-made-2.ensures.1 in
-    let so_far = rw (rest-drop (g.L.Leaves.means c.args.leaves.now) c.args.others.now c.loop-other.other-index c.other-item.result (omega arith) c.other-item.is) at c.loop-other.invariant.0 in
+    let so_far = rw (rest-drop (g.L.Leaves.means c.args.self.now.leaves.now) c.args.others.now c.loop-other.other-index c.other-item.result (omega arith) c.other-item.is) at c.loop-other.invariant.0 in
     rw (p.1, p.2)
     (thenc-off c.loop-other.made so_far c.loop-other.invariant.1 c.right_of-right.ensures.right c.converted-next.ensures.converts c.converted-next.ensures.makes c.in_err-made-2.ensures.joins)
 
 pub thenc-loop-other-preserved : goal.thenc-loop-other-preserved
 thenc-loop-other-preserved g t c =
-    let so_far = rw (rest-drop (g.L.Leaves.means c.args.leaves.now) c.args.others.now c.loop-other.other-index c.other-item.result (omega arith) c.other-item.is) at c.loop-other.invariant.0 in
+    let so_far = rw (rest-drop (g.L.Leaves.means c.args.self.now.leaves.now) c.args.others.now c.loop-other.other-index c.other-item.result (omega arith) c.other-item.is) at c.loop-other.invariant.0 in
     let next = c.converted-next.ensures.makes in
     let makes = c.in_ok-made-2.ensures.makes in
     let joins = c.in_ok-made-2.ensures.joins in (
@@ -130,18 +130,18 @@ orelsec-returns-then-not-is_caught-clause-converts g t c =
 
 pub orelsec-converted-requires-in-loop-other : goal.orelsec-converted-requires-in-loop-other
 orelsec-converted-requires-in-loop-other g t c =
-    let asked = asks-later (g.met.L.Leaves.stays_ready c.args.leaves.now) c.requires.asked c.loop-other.invariant.1 c.loop-other.invariant.2 in
+    let asked = asks-later (g.met.L.Leaves.stays_ready c.args.self.now.leaves.now) c.requires.asked c.loop-other.invariant.1 c.loop-other.invariant.2 in
     let le = size_in c.args.others.now c.loop-other.other-index c.other-item.result (omega arith) c.other-item.is in
     search rules
 
 pub orelsec-returns-in-Ok-converted-clause-converts : goal.orelsec-returns-in-Ok-converted-clause-converts
 orelsec-returns-in-Ok-converted-clause-converts g t c =
-    let so_far = rw (rest-drop (g.L.Leaves.means c.args.leaves.now) c.args.others.now c.loop-other.other-index c.other-item.result (omega arith) c.other-item.is) at c.loop-other.invariant.0 in
+    let so_far = rw (rest-drop (g.L.Leaves.means c.args.self.now.leaves.now) c.args.others.now c.loop-other.other-index c.other-item.result (omega arith) c.other-item.is) at c.loop-other.invariant.0 in
     chooses_answer _ _ _ _ so_far (search rules) (carried-answer (Ok c.in-Ok-converted.made) c.loop-other.invariant.1 c.in-Ok-converted.ensures.converts)
 
 pub orelsec-loop-other-preserved : goal.orelsec-loop-other-preserved
 orelsec-loop-other-preserved g t c =
-    let so_far = rw (rest-drop (g.L.Leaves.means c.args.leaves.now) c.args.others.now c.loop-other.other-index c.other-item.result (omega arith) c.other-item.is) at c.loop-other.invariant.0 in
+    let so_far = rw (rest-drop (g.L.Leaves.means c.args.self.now.leaves.now) c.args.others.now c.loop-other.other-index c.other-item.result (omega arith) c.other-item.is) at c.loop-other.invariant.0 in
     let makes = c.in-Err-converted.ensures.makes in (
       chooses_next _ _ _ _ so_far (search rules) (carried c.loop-other.invariant.1 c.in-Err-converted.ensures.converts),
       continued-twice c.loop-other.invariant.1 makes.continued,
@@ -156,7 +156,7 @@ orelsec-returns-clause-converts g t c =
 pub rand_conv-of_argument-requires : goal.rand_conv-of_argument-requires
 rand_conv-of_argument-requires g t c =
     let parts = c.in_ok-function.ensures.ok in
-    let makes = c.converted-part.ensures.makes in
+    let makes = c.below-part.ensures.makes in
     record {
       library = makes.library;
       whole = parts.is;
@@ -168,7 +168,7 @@ rand_conv-of_argument-requires g t c =
 
 pub rand_conv-returns-clause-converts : goal.rand_conv-returns-clause-converts
 rand_conv-returns-clause-converts g t c =
-    argument-arm c.of_argument.result c.in_ok-function.ensures.ok c.converted-part.ensures.converts c.converted-part.ensures.makes c.of_argument.ensures.joins
+    argument-arm c.of_argument.result c.in_ok-function.ensures.ok c.below-part.ensures.converts c.below-part.ensures.makes c.of_argument.ensures.joins
 
 pub rand_conv-returns-in_err-function-clause-converts : goal.rand_conv-returns-in_err-function-clause-converts
 rand_conv-returns-in_err-function-clause-converts g t c =
@@ -179,7 +179,7 @@ rand_conv-returns-in_err-function-clause-converts g t c =
 pub rator_conv-of_function-requires : goal.rator_conv-of_function-requires
 rator_conv-of_function-requires g t c =
     let parts = c.in_ok-function.ensures.ok in
-    let makes = c.converted-part.ensures.makes in
+    let makes = c.below-part.ensures.makes in
     record {
       library = makes.library;
       whole = parts.is;
@@ -191,7 +191,7 @@ rator_conv-of_function-requires g t c =
 
 pub rator_conv-returns-clause-converts : goal.rator_conv-returns-clause-converts
 rator_conv-returns-clause-converts g t c =
-    function-arm c.of_function.result c.in_ok-function.ensures.ok c.converted-part.ensures.converts c.converted-part.ensures.makes c.of_function.ensures.joins
+    function-arm c.of_function.result c.in_ok-function.ensures.ok c.below-part.ensures.converts c.below-part.ensures.makes c.of_function.ensures.joins
 
 pub rator_conv-returns-in_err-function-clause-converts : goal.rator_conv-returns-in_err-function-clause-converts
 rator_conv-returns-in_err-function-clause-converts g t c =
@@ -201,17 +201,17 @@ rator_conv-returns-in_err-function-clause-converts g t c =
 
 pub abs_conv-of_body-requires : goal.abs_conv-of_body-requires
 abs_conv-of_body-requires g t c =
-    let makes = c.converted-part.ensures.makes in
+    let makes = c.below-part.ensures.makes in
     record {
       library = makes.library;
       known = known-later c.args.t.now makes.continued c.requires.asked.known;
-      part = held-answer c.converted-part.new.library c.in_ok-binder.body.now c.converted-part.result makes.made;
+      part = held-answer c.below-part.new.library c.in_ok-binder.body.now c.below-part.result makes.made;
     }
 
 pub abs_conv-returns-clause-converts : goal.abs_conv-returns-clause-converts
 abs_conv-returns-clause-converts g t c =
     let parts = c.in_ok-binder.ensures.ok in
-    body-arm c.of_body.result parts c.converted-part.ensures.converts c.converted-part.ensures.makes (c.of_body.ensures.joins parts.name parts.ty _ parts.bound parts.is)
+    body-arm c.of_body.result parts c.below-part.ensures.converts c.below-part.ensures.makes (c.of_body.ensures.joins parts.name parts.ty _ parts.bound parts.is)
 
 pub abs_conv-returns-in_err-binder-clause-converts : goal.abs_conv-returns-in_err-binder-clause-converts
 abs_conv-returns-in_err-binder-clause-converts g t c =
@@ -224,16 +224,16 @@ sub_conv-returns-then-depth-ge-DESCENTS_LIMIT-clause-converts g t c =
     let is : combination c.in-Combination.function.now c.in-Combination.argument.now ≡ c.args.t.now = search rules in
     parts-too-deep _ _ _ is (search rules)
 
-pub sub_conv-converted-second-requires : goal.sub_conv-converted-second-requires
-sub_conv-converted-second-requires g t c =
+pub sub_conv-below-second-requires : goal.sub_conv-below-second-requires
+sub_conv-below-second-requires g t c =
     let is : combination c.in-Combination.function.now c.in-Combination.argument.now ≡ c.args.t.now = search rules in
-    let asked = asks-later (g.met.L.Leaves.stays_ready c.args.leaves.now) (of-argument c.requires.asked (sym is)) c.in_ok-first-in-Combination.ensures.makes.continued c.in_ok-first-in-Combination.ensures.makes.library in
+    let asked = asks-later (g.met.L.Leaves.stays_ready c.args.self.now.leaves.now) (of-argument c.requires.asked (sym is)) c.in_ok-first-in-Combination.ensures.makes.continued c.in_ok-first-in-Combination.ensures.makes.library in
     search rules
 
 pub sub_conv-of_parts-requires : goal.sub_conv-of_parts-requires
 sub_conv-of_parts-requires g t c =
     let is : combination c.in-Combination.function.now c.in-Combination.argument.now ≡ c.args.t.now = search rules in
-    let second = c.converted-second.ensures.makes in
+    let second = c.below-second.ensures.makes in
     let continued = continued-twice c.in_ok-first-in-Combination.ensures.makes.continued second.continued in
     record {
       library = second.library;
@@ -248,14 +248,14 @@ sub_conv-of_parts-requires g t c =
 pub sub_conv-returns-in_ok-first-in-Combination-clause-converts : goal.sub_conv-returns-in_ok-first-in-Combination-clause-converts
 sub_conv-returns-in_ok-first-in-Combination-clause-converts g t c =
     let is : combination c.in-Combination.function.now c.in-Combination.argument.now ≡ c.args.t.now = search rules in
-    let room : c.args.depth < DESCENTS_LIMIT = search rules in
-    parts-arm c.of_parts.result is room c.in_ok-first-in-Combination.ensures.converts c.in_ok-first-in-Combination.ensures.makes c.converted-second.ensures.converts c.converted-second.ensures.makes c.of_parts.ensures.joins
+    let room : c.args.self.now.depth < DESCENTS_LIMIT = search rules in
+    parts-arm c.of_parts.result is room c.in_ok-first-in-Combination.ensures.converts c.in_ok-first-in-Combination.ensures.makes c.below-second.ensures.converts c.below-second.ensures.makes c.of_parts.ensures.joins
 
 pub sub_conv-returns-in_err-first-in-Combination-clause-converts : goal.sub_conv-returns-in_err-first-in-Combination-clause-converts
 sub_conv-returns-in_err-first-in-Combination-clause-converts g t c =
     let p = err_from_is_err_and c.from_residual.result c.from_residual.ensures.1 in
     let is : combination c.in-Combination.function.now c.in-Combination.argument.now ≡ c.args.t.now = search rules in
-    let room : c.args.depth < DESCENTS_LIMIT = search rules in
+    let room : c.args.self.now.depth < DESCENTS_LIMIT = search rules in
     rw (p.1, p.2)
     (first-part-refused _ _ _ is room c.in_err-first-in-Combination.ensures.converts)
 
@@ -283,7 +283,7 @@ depth_conv-right_of-right-requires g t c =
 pub depth_conv-repeatc-here-requires : goal.depth_conv-repeatc-here-requires
 depth_conv-repeatc-here-requires g t c =
     let asked = asks-now c.right_of-right.result.now
-    (g.met.L.Leaves.stays_ready c.args.leaves.now) c.requires.asked c.in_ok-below.ensures.makes.continued c.in_ok-below.ensures.makes.library
+    (g.met.L.Leaves.stays_ready c.args.self.now.leaves.now) c.requires.asked c.in_ok-below.ensures.makes.continued c.in_ok-below.ensures.makes.library
     c.right_of-right.ensures.known in
     let sized = ap size c.requires.whole in
     search rules
@@ -304,7 +304,7 @@ depth_conv-then-requires g t c =
 
 pub depth_conv-returns-clause-converts : goal.depth_conv-returns-clause-converts
 depth_conv-returns-clause-converts g t c =
-    depth-arm c.then.result (ap (with_leaves (g.L.Leaves.means c.args.leaves.now)) c.requires.whole) c.in_ok-below.ensures.converts c.in_ok-below.ensures.makes
+    depth-arm c.then.result (ap (with_leaves (g.L.Leaves.means c.args.self.now.leaves.now)) c.requires.whole) c.in_ok-below.ensures.converts c.in_ok-below.ensures.makes
     c.right_of-right.ensures.right c.repeatc-here.ensures.converts
     c.repeatc-here.ensures.makes c.then.ensures.joins
 
@@ -312,19 +312,19 @@ pub depth_conv-returns-in_err-below-clause-converts : goal.depth_conv-returns-in
 depth_conv-returns-in_err-below-clause-converts g t c =
     let p = err_from_is_err_and c.from_residual.result c.from_residual.ensures.1 in
     rw (p.1, p.2)
-    (depth-stops (ap (with_leaves (g.L.Leaves.means c.args.leaves.now)) c.requires.whole) c.in_err-below.ensures.converts)
+    (depth-stops (ap (with_leaves (g.L.Leaves.means c.args.self.now.leaves.now)) c.requires.whole) c.in_err-below.ensures.converts)
 
 pub once_depth_conv-returns-then-not-is_caught-clause-converts : goal.once_depth_conv-returns-then-not-is_caught-clause-converts
 once_depth_conv-returns-then-not-is_caught-clause-converts g t c =
-    once-stops (ap (with_leaves (g.L.Leaves.means c.args.leaves.now)) c.requires.whole) c.in-Err.ensures.converts (search rules)
+    once-stops (ap (with_leaves (g.L.Leaves.means c.args.self.now.leaves.now)) c.requires.whole) c.in-Err.ensures.converts (search rules)
 
 pub once_depth_conv-returns-in-Ok-clause-converts : goal.once_depth_conv-returns-in-Ok-clause-converts
 once_depth_conv-returns-in-Ok-clause-converts g t c =
-    once-answers c.in-Ok.made (ap (with_leaves (g.L.Leaves.means c.args.leaves.now)) c.requires.whole) c.in-Ok.ensures.converts
+    once-answers c.in-Ok.made (ap (with_leaves (g.L.Leaves.means c.args.self.now.leaves.now)) c.requires.whole) c.in-Ok.ensures.converts
 
 pub once_depth_conv-returns-else-not-is_caught-clause-converts : goal.once_depth_conv-returns-else-not-is_caught-clause-converts
 once_depth_conv-returns-else-not-is_caught-clause-converts g t c =
-    once-arm c.or_same.result (ap (with_leaves (g.L.Leaves.means c.args.leaves.now)) c.requires.whole) c.in-Err.ensures.converts (search rules) c.in-Err.ensures.makes c.sub_conv-made.ensures.converts
+    once-arm c.or_same.result (ap (with_leaves (g.L.Leaves.means c.args.self.now.leaves.now)) c.requires.whole) c.in-Err.ensures.converts (search rules) c.in-Err.ensures.makes c.sub_conv-made.ensures.converts
     c.sub_conv-made.ensures.makes c.or_same.ensures.tries
 
 pub repeatc-returns-in_err-chain-clause-converts : goal.repeatc-returns-in_err-chain-clause-converts
@@ -336,7 +336,7 @@ repeatc-returns-in_err-chain-clause-converts g t c =
 pub repeatc-converted-made-requires : goal.repeatc-converted-made-requires
 repeatc-converted-made-requires g t c =
     let asked = asks-now c.loop-chain.chain.current
-    (g.met.L.Leaves.stays_ready c.args.leaves.now) c.requires.asked c.loop-chain.invariant.1 c.loop-chain.invariant.2
+    (g.met.L.Leaves.stays_ready c.args.self.now.leaves.now) c.requires.asked c.loop-chain.invariant.1 c.loop-chain.invariant.2
     c.loop-chain.invariant.3.held.known in
     search rules
 
@@ -386,7 +386,7 @@ top_depth_conv-returns-in_err-chain-clause-converts g t c =
 pub top_depth_conv-repeatc-here-requires : goal.top_depth_conv-repeatc-here-requires
 top_depth_conv-repeatc-here-requires g t c =
     let asked = asks-now c.loop-chain.chain.current
-    (g.met.L.Leaves.stays_ready c.args.leaves.now) c.requires.asked c.loop-chain.invariant.1 c.loop-chain.invariant.2
+    (g.met.L.Leaves.stays_ready c.args.self.now.leaves.now) c.requires.asked c.loop-chain.invariant.1 c.loop-chain.invariant.2
     c.loop-chain.invariant.3.held.known in
     let sized = ap size c.requires.whole in
     search rules
@@ -401,13 +401,13 @@ top_depth_conv-link-requires-clause-equation g t c =
 
 pub top_depth_conv-returns-in-Ends-clause-converts : goal.top_depth_conv-returns-in-Ends-clause-converts
 top_depth_conv-returns-in-Ends-clause-converts g t c =
-    let so_far = top-start (ap (with_leaves (g.L.Leaves.means c.args.leaves.now)) c.requires.whole) c.loop-chain.invariant.0 in
+    let so_far = top-start (ap (with_leaves (g.L.Leaves.means c.args.self.now.leaves.now)) c.requires.whole) c.loop-chain.invariant.0 in
     (link-stop c.loop-chain.chain _ c.in-Ends.result so_far c.loop-chain.invariant.1 c.repeatc-here.ensures.converts c.repeatc-here.ensures.makes c.repeatc-here.ensures.last c.in-Ends.ensures.links).0
 
 pub top_depth_conv-sub_conv-below-requires : goal.top_depth_conv-sub_conv-below-requires
 top_depth_conv-sub_conv-below-requires g t c =
     let before = continued-twice c.loop-chain.invariant.1 (continued-twice c.repeatc-here.ensures.makes.continued c.in-GoesOn.ensures.continued) in
-    let asked = asks-now c.in-GoesOn.chain.current (g.met.L.Leaves.stays_ready c.args.leaves.now) c.requires.asked before c.in-GoesOn.ensures.library c.in-GoesOn.ensures.made.held.known in
+    let asked = asks-now c.in-GoesOn.chain.current (g.met.L.Leaves.stays_ready c.args.self.now.leaves.now) c.requires.asked before c.in-GoesOn.ensures.library c.in-GoesOn.ensures.made.held.known in
     search rules
 
 pub top_depth_conv-link-requires-in-loop-chain-clause-chain : goal.top_depth_conv-link-requires-in-loop-chain-clause-chain
@@ -421,14 +421,14 @@ top_depth_conv-link-requires-in-loop-chain-clause-equation g t c =
 
 pub top_depth_conv-returns-in-Ends-link-clause-converts : goal.top_depth_conv-returns-in-Ends-link-clause-converts
 top_depth_conv-returns-in-Ends-link-clause-converts g t c =
-    let so_far = top-start (ap (with_leaves (g.L.Leaves.means c.args.leaves.now)) c.requires.whole) c.loop-chain.invariant.0 in
+    let so_far = top-start (ap (with_leaves (g.L.Leaves.means c.args.self.now.leaves.now)) c.requires.whole) c.loop-chain.invariant.0 in
     let before = continued-twice c.loop-chain.invariant.1 (continued-twice c.repeatc-here.ensures.makes.continued c.in-GoesOn.ensures.continued) in
     let so_far = joined_defined _ _ _ _ refl
     (link-on c.loop-chain.chain _ c.in-GoesOn.chain so_far c.loop-chain.invariant.1 c.repeatc-here.ensures.converts c.repeatc-here.ensures.makes
     c.in-GoesOn.ensures.links) in
     let below = changed-arm c.sub_conv-below.result c.changed-below.result
     (top-below c.sub_conv-below.result
-    (ap (with_leaves (g.L.Leaves.means c.args.leaves.now)) c.requires.whole) c.sub_conv-below.ensures.converts)
+    (ap (with_leaves (g.L.Leaves.means c.args.self.now.leaves.now)) c.requires.whole) c.sub_conv-below.ensures.converts)
     (c.changed-below.ensures.changed _) in
     let makes = changed-makes c.sub_conv-below.result c.changed-below.result c.sub_conv-below.ensures.makes c.changed-below.ensures.same in
     (link-off c.in-GoesOn.chain _ c.in-Ends-link.result so_far before c.in-GoesOn.ensures.made.held.known below makes c.in-Ends-link.ensures.links).0
@@ -438,7 +438,7 @@ top_depth_conv-converted-again-requires g t c =
     let before = continued-twice c.loop-chain.invariant.1 (continued-twice c.repeatc-here.ensures.makes.continued c.in-GoesOn.ensures.continued) in
     let before = continued-twice before (continued-twice c.sub_conv-below.ensures.makes.continued c.in-GoesOn-link.ensures.continued) in
     let asked = asks-now c.in-GoesOn-link.chain.current
-    (g.met.L.Leaves.stays_ready c.args.leaves.now) c.requires.asked before c.in-GoesOn-link.ensures.library
+    (g.met.L.Leaves.stays_ready c.args.self.now.leaves.now) c.requires.asked before c.in-GoesOn-link.ensures.library
     c.in-GoesOn-link.ensures.made.held.known in
     let sized = ap size c.requires.whole in
     search rules
@@ -453,14 +453,14 @@ top_depth_conv-link-requires-in-loop-chain-2-clause-equation g t c =
 
 pub top_depth_conv-returns-in-Ends-link-2-clause-converts : goal.top_depth_conv-returns-in-Ends-link-2-clause-converts
 top_depth_conv-returns-in-Ends-link-2-clause-converts g t c =
-    let so_far = top-start (ap (with_leaves (g.L.Leaves.means c.args.leaves.now)) c.requires.whole) c.loop-chain.invariant.0 in
+    let so_far = top-start (ap (with_leaves (g.L.Leaves.means c.args.self.now.leaves.now)) c.requires.whole) c.loop-chain.invariant.0 in
     let before = continued-twice c.loop-chain.invariant.1 (continued-twice c.repeatc-here.ensures.makes.continued c.in-GoesOn.ensures.continued) in
     let so_far = joined_defined _ _ _ _ refl
     (link-on c.loop-chain.chain _ c.in-GoesOn.chain so_far c.loop-chain.invariant.1 c.repeatc-here.ensures.converts c.repeatc-here.ensures.makes
     c.in-GoesOn.ensures.links) in
     let below = changed-arm c.sub_conv-below.result c.changed-below.result
     (top-below c.sub_conv-below.result
-    (ap (with_leaves (g.L.Leaves.means c.args.leaves.now)) c.requires.whole) c.sub_conv-below.ensures.converts)
+    (ap (with_leaves (g.L.Leaves.means c.args.self.now.leaves.now)) c.requires.whole) c.sub_conv-below.ensures.converts)
     (c.changed-below.ensures.changed _) in
     let makes = changed-makes c.sub_conv-below.result c.changed-below.result c.sub_conv-below.ensures.makes c.changed-below.ensures.same in
     let so_far = joined_defined _ _ _ _ refl (link-on c.in-GoesOn.chain _ c.in-GoesOn-link.chain (joined_tried _ _ _ _ so_far) before below makes c.in-GoesOn-link.ensures.links) in
@@ -491,21 +491,21 @@ top_depth_conv-loop-chain-smaller g t c =
 
 pub top_depth_conv-loop-chain-preserved : goal.top_depth_conv-loop-chain-preserved
 top_depth_conv-loop-chain-preserved g t c =
-    let so_far = top-start (ap (with_leaves (g.L.Leaves.means c.args.leaves.now)) c.requires.whole) c.loop-chain.invariant.0 in
+    let so_far = top-start (ap (with_leaves (g.L.Leaves.means c.args.self.now.leaves.now)) c.requires.whole) c.loop-chain.invariant.0 in
     let before = continued-twice c.loop-chain.invariant.1 (continued-twice c.repeatc-here.ensures.makes.continued c.in-GoesOn.ensures.continued) in
     let so_far = joined_defined _ _ _ _ refl
     (link-on c.loop-chain.chain _ c.in-GoesOn.chain so_far c.loop-chain.invariant.1 c.repeatc-here.ensures.converts c.repeatc-here.ensures.makes
     c.in-GoesOn.ensures.links) in
     let below = changed-arm c.sub_conv-below.result c.changed-below.result
     (top-below c.sub_conv-below.result
-    (ap (with_leaves (g.L.Leaves.means c.args.leaves.now)) c.requires.whole) c.sub_conv-below.ensures.converts)
+    (ap (with_leaves (g.L.Leaves.means c.args.self.now.leaves.now)) c.requires.whole) c.sub_conv-below.ensures.converts)
     (c.changed-below.ensures.changed _) in
     let makes = changed-makes c.sub_conv-below.result c.changed-below.result c.sub_conv-below.ensures.makes c.changed-below.ensures.same in
     let so_far = joined_defined _ _ _ _ refl (link-on c.in-GoesOn.chain _ c.in-GoesOn-link.chain (joined_tried _ _ _ _ so_far) before below makes c.in-GoesOn-link.ensures.links) in
     let before = continued-twice before (continued-twice makes.continued c.in-GoesOn-link.ensures.continued) in
     let again = c.converted-again.ensures.makes in
     let goes = c.in-GoesOn-link-2.ensures in (
-      top-again (ap (with_leaves (g.L.Leaves.means c.args.leaves.now)) c.requires.whole)
+      top-again (ap (with_leaves (g.L.Leaves.means c.args.self.now.leaves.now)) c.requires.whole)
           (link-on c.in-GoesOn-link.chain _ c.in-GoesOn-link-2.chain
           (joined_tried _ _ _ _ so_far) before c.converted-again.ensures.converts again goes.links),
       continued-twice before (continued-twice again.continued goes.continued),

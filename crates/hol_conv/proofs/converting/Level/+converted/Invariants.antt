@@ -10,50 +10,53 @@ use Rattle.hol_conv.specs.Leaves.{stands_for, all_stand_for, thenc_of, orelsec_o
 use Rattle.hol_conv.specs.Chains.{IsChainFrom, proved_by}
 use Rattle.hol_conv.proofs.Sizes.{size_of, sizes_of}
 use Rattle.hol_conv.proofs.Choosing.{ChoosesSoFar}
-use Rattle.hol_conv.proofs.converting.«+converted».Given as goal
+use Rattle.hol_conv.proofs.converting.Level.«+converted».Given as goal
 
 -- ---- the expression's size first, then the descents that are left
 
 abbrev pub decreases-converted : goal.decreases-converted
-decreases-converted g l = 10 * size_of l.conv.now + 4 * (DESCENTS_LIMIT - l.depth) + 3
+decreases-converted g l = 10 * size_of l.conv.now + 5 * (DESCENTS_LIMIT - l.self.now.depth) + 3
 
 abbrev pub decreases-thenc : goal.decreases-thenc
-decreases-thenc g l = 10 * (size_of l.first.now + sizes_of l.others.now) + 4 * (DESCENTS_LIMIT - l.depth) + 4
+decreases-thenc g l = 10 * (size_of l.first.now + sizes_of l.others.now) + 5 * (DESCENTS_LIMIT - l.self.now.depth) + 4
 
 abbrev pub decreases-orelsec : goal.decreases-orelsec
-decreases-orelsec g l = 10 * (size_of l.first.now + sizes_of l.others.now) + 4 * (DESCENTS_LIMIT - l.depth) + 4
+decreases-orelsec g l = 10 * (size_of l.first.now + sizes_of l.others.now) + 5 * (DESCENTS_LIMIT - l.self.now.depth) + 4
 
 abbrev pub decreases-repeatc : goal.decreases-repeatc
-decreases-repeatc g l = 10 * size_of l.conv.now + 4 * (DESCENTS_LIMIT - l.depth) + 4
+decreases-repeatc g l = 10 * size_of l.conv.now + 5 * (DESCENTS_LIMIT - l.self.now.depth) + 4
+
+abbrev pub decreases-below : goal.decreases-below
+decreases-below g l = 10 * size_of l.conv.now + 5 * (DESCENTS_LIMIT - (l.self.now.depth + 1)) + 4
 
 abbrev pub decreases-rand_conv : goal.decreases-rand_conv
-decreases-rand_conv g l = 10 * size_of l.conv.now + 4 * (DESCENTS_LIMIT - l.depth)
+decreases-rand_conv g l = 10 * size_of l.conv.now + 5 * (DESCENTS_LIMIT - l.self.now.depth)
 
 abbrev pub decreases-rator_conv : goal.decreases-rator_conv
-decreases-rator_conv g l = 10 * size_of l.conv.now + 4 * (DESCENTS_LIMIT - l.depth)
+decreases-rator_conv g l = 10 * size_of l.conv.now + 5 * (DESCENTS_LIMIT - l.self.now.depth)
 
 abbrev pub decreases-abs_conv : goal.decreases-abs_conv
-decreases-abs_conv g l = 10 * size_of l.conv.now + 4 * (DESCENTS_LIMIT - l.depth)
+decreases-abs_conv g l = 10 * size_of l.conv.now + 5 * (DESCENTS_LIMIT - l.self.now.depth)
 
 abbrev pub decreases-sub_conv : goal.decreases-sub_conv
-decreases-sub_conv g l = 10 * size_of l.conv.now + 4 * (DESCENTS_LIMIT - l.depth) + 1
+decreases-sub_conv g l = 10 * size_of l.conv.now + 5 * (DESCENTS_LIMIT - l.self.now.depth) + 1
 
 abbrev pub decreases-depth_conv : goal.decreases-depth_conv
-decreases-depth_conv g l = 10 * size_of l.whole.now + 4 * (DESCENTS_LIMIT - l.depth) + 2
+decreases-depth_conv g l = 10 * size_of l.whole.now + 5 * (DESCENTS_LIMIT - l.self.now.depth) + 2
 
 abbrev pub decreases-once_depth_conv : goal.decreases-once_depth_conv
-decreases-once_depth_conv g l = 10 * size_of l.whole.now + 4 * (DESCENTS_LIMIT - l.depth) + 2
+decreases-once_depth_conv g l = 10 * size_of l.whole.now + 5 * (DESCENTS_LIMIT - l.self.now.depth) + 2
 
 abbrev pub decreases-top_depth_conv : goal.decreases-top_depth_conv
-decreases-top_depth_conv g l = 10 * size_of l.whole.now + 4 * (DESCENTS_LIMIT - l.depth) + 2
+decreases-top_depth_conv g l = 10 * size_of l.whole.now + 5 * (DESCENTS_LIMIT - l.self.now.depth) + 2
 
 -- ---- loops
 
 abbrev pub invariant-thenc-loop-other : goal.invariant-thenc-loop-other
 invariant-thenc-loop-other g l =
-    ThencSoFar l.fn.library.recorder.theory (store_in l.fn.library) (g.L.Leaves.hosts l.leaves) l.depth
-    l.fn.fuel.left (thenc_of (g.L.Leaves.means l.leaves) l.first l.others) l.t l.fuel.left (theorem_of l.fn.library.recorder.theory l.t l.made)
-    (all_stand_for (g.L.Leaves.means l.leaves) (drop l.other-index l.others))
+    ThencSoFar l.fn.library.recorder.theory (store_in l.fn.library) (g.L.Leaves.hosts l.self.leaves.now) l.self.depth
+    l.fn.fuel.left (thenc_of (g.L.Leaves.means l.self.leaves.now) l.first l.others) l.t l.fuel.left (theorem_of l.fn.library.recorder.theory l.t l.made)
+    (all_stand_for (g.L.Leaves.means l.self.leaves.now) (drop l.other-index l.others))
     × IsContinued l.fn.library l.library
     × IsLibrary l.library
     × IsAnswerOf l.library l.t l.made
@@ -61,15 +64,15 @@ invariant-thenc-loop-other g l =
 
 abbrev pub invariant-orelsec-loop-other : goal.invariant-orelsec-loop-other
 invariant-orelsec-loop-other g l =
-    ChoosesSoFar l.fn.library.recorder.theory (store_in l.fn.library) (g.L.Leaves.hosts l.leaves) l.depth
-    l.fn.fuel.left (orelsec_of (g.L.Leaves.means l.leaves) l.first l.others) l.t l.fuel.left l.fault (all_stand_for (g.L.Leaves.means l.leaves) (drop l.other-index l.others))
+    ChoosesSoFar l.fn.library.recorder.theory (store_in l.fn.library) (g.L.Leaves.hosts l.self.leaves.now) l.self.depth
+    l.fn.fuel.left (orelsec_of (g.L.Leaves.means l.self.leaves.now) l.first l.others) l.t l.fuel.left l.fault (all_stand_for (g.L.Leaves.means l.self.leaves.now) (drop l.other-index l.others))
     × IsContinued l.fn.library l.library
     × IsLibrary l.library
 
 abbrev pub invariant-repeatc-loop-chain : goal.invariant-repeatc-loop-chain
 invariant-repeatc-loop-chain g l =
-    JoinedSoFar l.fn.library.recorder.theory (store_in l.fn.library) (g.L.Leaves.hosts l.leaves) l.depth
-    l.fn.fuel.left (repeatc (stands_for (g.L.Leaves.means l.leaves) l.conv)) l.t l.fuel.left (repeatc (stands_for (g.L.Leaves.means l.leaves) l.conv))
+    JoinedSoFar l.fn.library.recorder.theory (store_in l.fn.library) (g.L.Leaves.hosts l.self.leaves.now) l.self.depth
+    l.fn.fuel.left (repeatc (stands_for (g.L.Leaves.means l.self.leaves.now) l.conv)) l.t l.fuel.left (repeatc (stands_for (g.L.Leaves.means l.self.leaves.now) l.conv))
     (proved_by l.fn.library.recorder.theory l.chain) l.chain.current
     × IsContinued l.fn.library l.library
     × IsLibrary l.library
@@ -80,8 +83,8 @@ decreases-repeatc-loop-chain g l = l.fuel.left
 
 abbrev pub invariant-top_depth_conv-loop-chain : goal.invariant-top_depth_conv-loop-chain
 invariant-top_depth_conv-loop-chain g l =
-    JoinedSoFar l.fn.library.recorder.theory (store_in l.fn.library) (g.L.Leaves.hosts l.leaves) l.depth
-    l.fn.fuel.left (stands_for (g.L.Leaves.means l.leaves) l.whole) l.t l.fuel.left (stands_for (g.L.Leaves.means l.leaves) l.whole)
+    JoinedSoFar l.fn.library.recorder.theory (store_in l.fn.library) (g.L.Leaves.hosts l.self.leaves.now) l.self.depth
+    l.fn.fuel.left (stands_for (g.L.Leaves.means l.self.leaves.now) l.whole) l.t l.fuel.left (stands_for (g.L.Leaves.means l.self.leaves.now) l.whole)
     (proved_by l.fn.library.recorder.theory l.chain) l.chain.current
     × IsContinued l.fn.library l.library
     × IsLibrary l.library

@@ -1,0 +1,7 @@
+use Rattle.std.proofs.Common.{rules}
+use Rattle.hol_check_lines.proofs.StepPairLemmas.{type-pairs-found}
+use Rattle.hol_check_lines.proofs.step_pairs.type_pairs.Goals as goal
+
+pub returns-clause-found : goal.returns-clause-found
+returns-clause-found c =
+    type-pairs-found c.args.terms.now c.args.contents.now _ c.args.lines.now c.pairs_at.result c.pairs_at.ensures.found (λ line number given. search rules)
