@@ -1,17 +1,15 @@
 -- What the parts of the printer put at the end of a text is the text of the tree.
-use Rattle.std.proofs.Common.{OnOk, Result, Ok, Err, inl, inr, ◌⊎◌, ◌≤◌, ◌<◌, arith, append_assoc, ◌≡◌, ℕ, Bool, true, false, List, [], ◌∷◌, ◌++◌, refl, sym, ap, ◌∙◌, if◌then◌else◌, codes}
+use Rattle.std.proofs.Common.{OnOk, Result, Ok, Err, inl, inr, ◌⊎◌, ◌≤◌, ◌<◌, arith, ◌≡◌, ℕ, Bool, true, false, List, [], ◌++◌, refl, sym, ap, ◌∙◌, if◌then◌else◌, codes}
 use Rattle.std.proofs.Common.{nat_le, ◌||◌}
 use Rattle.std.specs.Str.{bytes_eq}
 use Rattle.std.proofs.lemmas.Slice.Eq.{bytes_eq-Decides}
 use Rattle.std.proofs.lemmas.List.{append-nil}
 use Rattle.std.proofs.lemmas.Bool.Decides.{leb_tells}
 use Rattle.hol_model.specs.Terms.Name.{is_identifier, is_symbol, is_constant_name}
-use Rattle.hol_model.specs.Terms.HolType.{type_eq}
-use Rattle.hol_model.specs.Texts.TermGrammar.{Infix, Variable, TermTree, Apply, Not, Join, Bind, Enclosed, infix_level, infix_symbol, Binder, binder_symbol, level}
-use Rattle.hol_model.specs.Texts.Token.{Token, Name, Mark, token_text, symbol_text}
+use Rattle.hol_model.specs.Texts.TermGrammar.{TermTree, Enclosed, level}
+use Rattle.hol_model.specs.Texts.Token.{Token, Name, Mark, token_text}
 use Rattle.hol_model.specs.declared.symbol.Symbol.TheVariants.{Implies, And, Or, Equal, Exclamation, Question, At, Tilde}
-use Rattle.hol_model.specs.Texts.Printing.{enclose, apply_tree, variable_tree, name_token}
-use Rattle.hol_model.specs.Texts.Texts.{type_bytes}
+use Rattle.hol_model.specs.Texts.Printing.{enclose, name_token}
 use Rattle.hol_syntax_print.specs.Output.{Appends}
 
 pub joined : {a b c : List ℕ} {f g : List ℕ → List ℕ} → Appends a b f → Appends b c g → Appends a c (λ rest. f (g rest))

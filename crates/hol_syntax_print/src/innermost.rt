@@ -1,10 +1,9 @@
 // The types of the innermost binders, by name.
 ghost use Rattle.std.specs.Prelude.{◌≡◌, [], ◌∷◌, Some, IfOk, OnOk};
 ghost use Rattle.std.specs.Option.{option_map};
-ghost use Rattle.std.specs.HashMap as map;
 ghost use Rattle.hol_model.specs.Terms.HolType.{HolType};
 ghost use Rattle.hol_model.specs.Texts.Reading.{Bindings, bound_type};
-ghost use Rattle.hol_syntax_print.specs.Innermost.{SetsBound, IsInnermost};
+ghost use Rattle.hol_syntax_print.specs.Innermost.{SetsBound, IsInnermost, bound};
 
 use hol_types::Ty;
 use std::alloc::{AllocError, Global};
@@ -12,46 +11,43 @@ use std::collections::HashMap;
 
 /// The type of the innermost open binder of each name.
 #[derive(Drop)]
-pub struct Innermost {
-    alloc: Global,
-    types: HashMap<String, Ty>,
+pub struct Innermost<'a> {
+    types: HashMap<&'a str, &'a Ty>,
 }
 
-impl Innermost {
+impl<'a> Innermost<'a> {
     /// No binder is open.
-    pub fn new(alloc: Global) -> Innermost
+    pub fn new(alloc: Global) -> Innermost<'a>
         ensures { IsInnermost result [] }
     {
         Innermost {
-            alloc,
             types: HashMap::new(alloc),
         }
     }
 
     /// The type of the innermost binder of this name.
-    pub fn find(&self, name: &str) -> Option<&Ty>
+    pub fn find(&self, name: &str) -> Option<&'a Ty>
         ensures { (bindings : Bindings) → IsInnermost self.now bindings
             → option_map (λ ty. ty.now) result ≡ bound_type bindings name.now }
     {
         if self.types.is_empty() {
             return None;
         }
-        self.types.get(name)
+        self.types.get(name).copied()
     }
 
     // Sets the type that a name stands for, and hands out the one that it stood for.
-    fn set(&mut self, name: &str, ty: Ty) -> Result<Option<Ty>, AllocError>
-        ensures old { IfOk result (λ hidden. hidden ≡ map.get_by_text self.old.types name.now) }
-        ensures new { OnOk result (SetsBound (map.get_by_text self.old.types) (map.get_by_text self.new.types) name.now (Some ty)) }
+    fn set(&mut self, name: &'a str, ty: &'a Ty) -> Result<Option<&'a Ty>, AllocError>
+        ensures old { IfOk result (λ hidden. hidden ≡ bound self.old name.now) }
+        ensures new { OnOk result (SetsBound (bound self.old) (bound self.new) name.now (Some ty.entry)) }
     {
-        let key = String::from_str(self.alloc, name)?;
-        let hidden = self.types.insert(key, ty)?;
+        let hidden = self.types.insert(name, ty)?;
         Ok(hidden)
     }
 
     // Gives a name back the type that it stood for, if it stood for one.
-    fn reset(&mut self, name: &str, hidden: Option<Ty>) -> Result<(), AllocError>
-        ensures new { OnOk result (SetsBound (map.get_by_text self.old.types) (map.get_by_text self.new.types) name.now hidden) }
+    fn reset(&mut self, name: &'a str, hidden: Option<&'a Ty>) -> Result<(), AllocError>
+        ensures new { OnOk result (SetsBound (bound self.old) (bound self.new) name.now hidden.entry) }
     {
         match hidden {
             Some(ty) => {
@@ -65,19 +61,16 @@ impl Innermost {
     }
 
     /// Opens a binder, and hands out the type that its name stood for.
-    pub fn enter(&mut self, name: &str, ty: &Ty) -> Result<Option<Ty>, AllocError>
-        ensures hidden { (bindings : Bindings) → IsInnermost self.old bindings → IfOk result (λ hidden. hidden ≡ bound_type bindings name.now) }
+    pub fn enter(&mut self, name: &'a str, ty: &'a Ty) -> Result<Option<&'a Ty>, AllocError>
+        ensures hidden { (bindings : Bindings) → IsInnermost self.old bindings → IfOk result (λ hidden. option_map (λ ty. ty.now) hidden ≡ bound_type bindings name.now) }
         ensures opened { (bindings : Bindings) → IsInnermost self.old bindings → OnOk result (IsInnermost self.new ((name.now, ty.now) ∷ bindings)) }
     {
-        let Ok(ty) = ty.copy(self.alloc) else {
-            return Err(AllocError);
-        };
         self.set(name, ty)
     }
 
     /// Closes the innermost binder, which has this name, and gives the name back the type that it stood for.
-    pub fn leave(&mut self, name: &str, hidden: Option<Ty>) -> Result<(), AllocError>
-        ensures closed { (ty : HolType) (bindings : Bindings) → IsInnermost self.old ((name.now, ty) ∷ bindings) → hidden ≡ bound_type bindings name.now
+    pub fn leave(&mut self, name: &'a str, hidden: Option<&'a Ty>) -> Result<(), AllocError>
+        ensures closed { (ty : HolType) (bindings : Bindings) → IsInnermost self.old ((name.now, ty) ∷ bindings) → option_map (λ ty. ty.now) hidden.entry ≡ bound_type bindings name.now
             → OnOk result (IsInnermost self.new bindings) }
     {
         self.reset(name, hidden)

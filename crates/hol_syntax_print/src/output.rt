@@ -56,6 +56,20 @@ pub fn print_type(ty: &Ty, on_left: bool, out: &mut String) -> Result<(), AllocE
     }
 }
 
+/// Prints a colon and a type.
+#[inline(always)]
+fn print_annotation(ty: &Ty, out: &mut String) -> Result<(), AllocError>
+    ensures ok { OnOk result (Appends (string_bytes out.old) (string_bytes out.new) (λ rest. 58 ∷ type_bytes (type_tree ty.now) rest)) }
+{
+    match ty.parts() {
+        TypeParts::Bool => append(out, ":bool"),
+        _ => {
+            append(out, ":")?;
+            print_type(ty, false, out)
+        }
+    }
+}
+
 /// Prints a name with its type, between two texts.
 #[inline(always)]
 pub fn print_typed(
@@ -70,7 +84,6 @@ pub fn print_typed(
 {
     append(out, before)?;
     append(out, name)?;
-    append(out, ":")?;
-    print_type(ty, false, out)?;
+    print_annotation(ty, out)?;
     append(out, after)
 }

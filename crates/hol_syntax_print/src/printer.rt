@@ -29,7 +29,7 @@ use std::alloc::{AllocError, Global};
 
 // Prints a variable: its bare name where the innermost binder of that name is its own, else its type too.
 fn print_variable(
-    binders: &Innermost,
+    binders: &Innermost<'_>,
     name: &str,
     ty: &Ty,
     out: &mut String,
@@ -47,7 +47,7 @@ fn print_variable(
 // Prints a constant: its bare name where that says which constant it is, else its type too.
 fn print_constant(
     scope: &Scope,
-    binders: &Innermost,
+    binders: &Innermost<'_>,
     name: &str,
     ty: &Ty,
     out: &mut String,
@@ -65,11 +65,11 @@ fn print_constant(
 
 // Prints a term that stands under binders, in parentheses where its form is below the level.
 #[cycle(print_term)]
-fn print_term(
-    term: &Term,
+fn print_term<'a>(
+    term: &'a Term,
     scope: &Scope,
     min_level: u8,
-    binders: &mut Innermost,
+    binders: &mut Innermost<'a>,
     out: &mut String,
 ) -> Result<(), AllocError>
     ensures ok { (bindings : Bindings) → IsInnermost binders.old bindings → OnOk result (Appends (string_bytes out.old) (string_bytes out.new)
@@ -85,10 +85,10 @@ fn print_term(
 
 // Prints a term of this form.
 #[cycle(print_term)]
-fn print_shape(
-    shape: Shape<'_>,
+fn print_shape<'a>(
+    shape: Shape<'a>,
     scope: &Scope,
-    binders: &mut Innermost,
+    binders: &mut Innermost<'a>,
     out: &mut String,
 ) -> Result<(), AllocError>
     requires { IsNamed shape }
@@ -113,11 +113,11 @@ fn print_shape(
 }
 
 #[cycle(print_term)]
-fn print_application(
-    function: &Term,
-    argument: &Term,
+fn print_application<'a>(
+    function: &'a Term,
+    argument: &'a Term,
     scope: &Scope,
-    binders: &mut Innermost,
+    binders: &mut Innermost<'a>,
     out: &mut String,
 ) -> Result<(), AllocError>
     ensures ok { (bindings : Bindings) → IsInnermost binders.old bindings → OnOk result (Appends (string_bytes out.old) (string_bytes out.new)
@@ -130,10 +130,10 @@ fn print_application(
 }
 
 #[cycle(print_term)]
-fn print_negation(
-    operand: &Term,
+fn print_negation<'a>(
+    operand: &'a Term,
     scope: &Scope,
-    binders: &mut Innermost,
+    binders: &mut Innermost<'a>,
     out: &mut String,
 ) -> Result<(), AllocError>
     ensures ok { (bindings : Bindings) → IsInnermost binders.old bindings → OnOk result (Appends (string_bytes out.old) (string_bytes out.new)
@@ -145,12 +145,12 @@ fn print_negation(
 }
 
 #[cycle(print_term)]
-fn print_infix(
+fn print_infix<'a>(
     operation: Infix,
-    left: &Term,
-    right: &Term,
+    left: &'a Term,
+    right: &'a Term,
     scope: &Scope,
-    binders: &mut Innermost,
+    binders: &mut Innermost<'a>,
     out: &mut String,
 ) -> Result<(), AllocError>
     ensures ok { (bindings : Bindings) → IsInnermost binders.old bindings → OnOk result (Appends (string_bytes out.old) (string_bytes out.new)
@@ -164,13 +164,13 @@ fn print_infix(
 }
 
 #[cycle(print_term)]
-fn print_binding(
+fn print_binding<'a>(
     binder: Binder,
-    name: &str,
-    ty: &Ty,
-    body: &Term,
+    name: &'a str,
+    ty: &'a Ty,
+    body: &'a Term,
     scope: &Scope,
-    binders: &mut Innermost,
+    binders: &mut Innermost<'a>,
     out: &mut String,
 ) -> Result<(), AllocError>
     ensures ok { (bindings : Bindings) → IsInnermost binders.old bindings → OnOk result (Appends (string_bytes out.old) (string_bytes out.new)
@@ -184,48 +184,53 @@ fn print_binding(
 }
 
 // Prints a term that stands under no binder.
-fn print_whole(
-    alloc: Global,
+fn print_whole<'a>(
+    binders: &mut Innermost<'a>,
     scope: &Scope,
-    term: &Term,
+    term: &'a Term,
     out: &mut String,
 ) -> Result<(), AllocError>
+    requires none { IsInnermost binders.old [] }
     ensures ok { OnOk result (Appends (string_bytes out.old) (string_bytes out.new) (term_bytes (term_tree (scope_of scope.now) [] term.now))) }
+    ensures kept { OnOk result (IsInnermost binders.new []) }
 {
-    let mut binders = Innermost::new(alloc);
-    print_term(term, scope, 0, &mut binders, out)
+    print_term(term, scope, 0, binders, out)
 }
 
 // Prints each term behind a comma.
-fn print_further(
-    alloc: Global,
+fn print_further<'a>(
+    binders: &mut Innermost<'a>,
     scope: &Scope,
-    terms: &[Term],
+    terms: &'a [Term],
     out: &mut String,
 ) -> Result<(), AllocError>
+    requires none { IsInnermost binders.old [] }
     ensures ok { OnOk result (Appends (string_bytes out.old) (string_bytes out.new) (further_bytes (scope_of scope.now) terms.now)) }
+    ensures kept { OnOk result (IsInnermost binders.new []) }
 {
     for term in terms {
         append(out, ", ")?;
-        print_whole(alloc, scope, term, out)?;
+        print_whole(binders, scope, term, out)?;
     }
     Ok(())
 }
 
 // Prints the terms with commas between them and a space behind, if there are any.
-fn print_listed(
-    alloc: Global,
+fn print_listed<'a>(
+    binders: &mut Innermost<'a>,
     scope: &Scope,
-    terms: &[Term],
+    terms: &'a [Term],
     out: &mut String,
 ) -> Result<(), AllocError>
+    requires none { IsInnermost binders.old [] }
     ensures ok { OnOk result (Appends (string_bytes out.old) (string_bytes out.new) (listed_bytes (scope_of scope.now) terms.now)) }
+    ensures kept { OnOk result (IsInnermost binders.new []) }
 {
     match terms {
         [] => Ok(()),
         [first, rest @ ..] => {
-            print_whole(alloc, scope, first, out)?;
-            print_further(alloc, scope, rest, out)?;
+            print_whole(binders, scope, first, out)?;
+            print_further(binders, scope, rest, out)?;
             append(out, " ")
         }
     }
@@ -250,8 +255,9 @@ pub fn text_of_term(alloc: Global, scope: &Scope, term: &Term) -> Result<String,
     ensures err { IfErr result (λ fault. fault ≡ Memory) }
 {
     term.well_formed();
+    let mut binders = Innermost::new(alloc);
     let mut out = String::new(alloc);
-    print_whole(alloc, scope, term, &mut out)?;
+    print_whole(&mut binders, scope, term, &mut out)?;
     Ok(out)
 }
 
@@ -265,10 +271,11 @@ fn text_around(
 ) -> Result<String, AllocError>
     ensures { IfOk result (λ text. string_bytes text ≡ listed_bytes (scope_of scope.now) terms.now (sign.now ++ term_bytes (term_tree (scope_of scope.now) [] concl.now) [])) }
 {
+    let mut binders = Innermost::new(alloc);
     let mut out = String::new(alloc);
-    print_listed(alloc, scope, terms, &mut out)?;
+    print_listed(&mut binders, scope, terms, &mut out)?;
     append(&mut out, sign)?;
-    print_whole(alloc, scope, concl, &mut out)?;
+    print_whole(&mut binders, scope, concl, &mut out)?;
     Ok(out)
 }
 

@@ -43,7 +43,7 @@ pub enum Shape<'a> {
 }
 
 /// Whether the innermost binder of the name has the type.
-pub fn is_bound(binders: &Innermost, name: &str, ty: &Ty) -> bool
+pub fn is_bound(binders: &Innermost<'_>, name: &str, ty: &Ty) -> bool
     ensures { (bindings : Bindings) → IsInnermost binders.now bindings → result ≡ is_bound_at bindings name.now ty.now }
 {
     match binders.find(name) {
@@ -53,7 +53,7 @@ pub fn is_bound(binders: &Innermost, name: &str, ty: &Ty) -> bool
 }
 
 /// Whether the constant's name alone says which constant it is.
-pub fn is_bare_constant(scope: &Scope, binders: &Innermost, name: &str) -> bool
+pub fn is_bare_constant(scope: &Scope, binders: &Innermost<'_>, name: &str) -> bool
     ensures { (bindings : Bindings) → IsInnermost binders.now bindings → result ≡ spec.is_bare_constant (scope_of scope.now) bindings name.now }
 {
     if !is_identifier(name.as_bytes()) {
@@ -121,16 +121,12 @@ fn truth_infix(ty: &Ty, operation: Infix) -> Option<Infix>
 fn infix_of(name: &str, ty: &Ty) -> Option<Infix>
     ensures { option_map infix_here result ≡ printing.infix_of name.now ty.now }
 {
-    if name == "=" {
-        equality_infix(ty)
-    } else if name == "==>" {
-        truth_infix(ty, Infix::Implies)
-    } else if name == "\\/" {
-        truth_infix(ty, Infix::Or)
-    } else if name == "/\\" {
-        truth_infix(ty, Infix::And)
-    } else {
-        None
+    match name.as_bytes() {
+        [b'='] => equality_infix(ty),
+        [b'=', b'=', b'>'] => truth_infix(ty, Infix::Implies),
+        [b'\\', b'/'] => truth_infix(ty, Infix::Or),
+        [b'/', b'\\'] => truth_infix(ty, Infix::And),
+        _ => None,
     }
 }
 
@@ -165,16 +161,12 @@ fn choice_prefix(ty: &Ty) -> Prefix
 fn prefix_of(name: &str, ty: &Ty) -> Prefix
     ensures { prefix_here result ≡ printing.prefix_of name.now ty.now }
 {
-    if name == "~" {
-        negation_prefix(ty)
-    } else if name == "!" {
-        quantifier_prefix(ty, Binder::ForAll)
-    } else if name == "?" {
-        quantifier_prefix(ty, Binder::Exists)
-    } else if name == "@" {
-        choice_prefix(ty)
-    } else {
-        Prefix::Nothing
+    match name.as_bytes() {
+        [b'~'] => negation_prefix(ty),
+        [b'!'] => quantifier_prefix(ty, Binder::ForAll),
+        [b'?'] => quantifier_prefix(ty, Binder::Exists),
+        [b'@'] => choice_prefix(ty),
+        _ => Prefix::Nothing,
     }
 }
 

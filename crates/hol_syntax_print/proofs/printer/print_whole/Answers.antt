@@ -9,6 +9,7 @@ use Rattle.hol_syntax_print.proofs.printer.print_whole.Goals as goal
 
 pub returns : goal.returns
 returns c = record {
-  ok = on_ok c.print_term.result (c.print_term.ensures.ok [] c.new-binders.ensures)
+  ok = on_ok c.print_term.result (c.print_term.ensures.ok [] c.requires.none)
       (subst (λ tree. Appends (string_bytes c.args.out.now) (string_bytes c.print_term.new.out) (term_bytes tree)) (enclose_none (term_tree (scope_of c.args.scope.now) [] c.args.term.now)));
+  kept = c.print_term.ensures.kept [] c.requires.none;
 }
