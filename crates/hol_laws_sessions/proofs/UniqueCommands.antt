@@ -1,8 +1,10 @@
 -- A text is one command's.
-use Rattle.std.proofs.Common.{◌≡◌, ℕ, List, [], ◌∷◌, refl, sym, ap, ◌∙◌, Option, Some}
+use Rattle.std.proofs.Common.{◌≡◌, ℕ, List, [], ◌∷◌, refl, sym, ap, ◌∙◌, Option, None, Some}
 use Rattle.std.specs.Prelude.{codes}
 use Rattle.hol_model.specs.Texts.TypeGrammar.{type_tokens}
 use Rattle.hol_model.specs.Texts.TermGrammar.{TermTree}
+use Rattle.hol_model_rules.specs.RuleForms.{IsRuleOf}
+use Rattle.hol_model_rules.proofs.Words.{found-word}
 use Rattle.hol_model_sessions.specs.Commands.{quote_tokens, IsQuotable}
 use Rattle.hol_model_sessions.specs.ConversionGrammar.{unit_tokens}
 use Rattle.hol_model_sessions.specs.TacticGrammar.{tactic_tokens}
@@ -19,14 +21,20 @@ use Rattle.hol_laws_sessions.proofs.UniqueRules.{begins_no_rule, rules-unambiguo
 one_quote : QuotesAreUnambiguous → (a b : TermTree) → IsQuotable a → IsQuotable b → quote_tokens a [] ≡ quote_tokens b [] → a ≡ b
 one_quote quotes a b qa qb same = (quotes a b [] [] qa qb same).same
 
+taut-unknown : IsRuleOf (codes "TAUT") None
+taut-unknown = found-word (codes "TAUT") None refl
+
+conv-unknown : IsRuleOf (codes "CONV") None
+conv-unknown = found-word (codes "CONV") None refl
+
 theorem-same : PartsAreUnambiguous → (a b : TheoremTree) → IsTheoremTree a → IsTheoremTree b → theorem_tokens a ≡ theorem_tokens b → a ≡ b
 theorem-same parts (by_rule a) (by_rule b) ga gb same = ap by_rule (rules-unambiguous parts.quotes parts.type_quotes a b ga gb same)
-theorem-same parts (by_rule a) (by_tautology b) ga gb same = begins_no_rule a (theorem_tokens (by_tautology b)) same refl
-theorem-same parts (by_rule a) (by_conversion c b) ga gb same = begins_no_rule a (theorem_tokens (by_conversion c b)) same refl
-theorem-same parts (by_tautology a) (by_rule b) ga gb same = begins_no_rule b (theorem_tokens (by_tautology a)) (sym same) refl
+theorem-same parts (by_rule a) (by_tautology b) ga gb same = begins_no_rule a (codes "TAUT") _ taut-unknown refl same
+theorem-same parts (by_rule a) (by_conversion c b) ga gb same = begins_no_rule a (codes "CONV") _ conv-unknown refl same
+theorem-same parts (by_tautology a) (by_rule b) ga gb same = begins_no_rule b (codes "TAUT") _ taut-unknown refl (sym same)
 theorem-same parts (by_tautology a) (by_tautology b) ga gb same = (let behind : quote_tokens a [] ≡ quote_tokens b [] = cc in ap by_tautology (one_quote parts.quotes a b ga gb behind))
 theorem-same parts (by_tautology a) (by_conversion c b) ga gb same = begins_otherwise (codes "CONV") (theorem_tokens (by_tautology a)) (theorem_tokens (by_conversion c b)) refl same refl
-theorem-same parts (by_conversion c a) (by_rule b) ga gb same = begins_no_rule b (theorem_tokens (by_conversion c a)) (sym same) refl
+theorem-same parts (by_conversion c a) (by_rule b) ga gb same = begins_no_rule b (codes "CONV") _ conv-unknown refl (sym same)
 theorem-same parts (by_conversion c a) (by_tautology b) ga gb same = begins_otherwise (codes "CONV") (theorem_tokens (by_tautology b)) (theorem_tokens (by_conversion c a)) refl (sym same) refl
 theorem-same parts (by_conversion c a) (by_conversion d b) ga gb same =
     let behind : unit_tokens c (quote_tokens a []) ≡ unit_tokens d (quote_tokens b []) = cc in

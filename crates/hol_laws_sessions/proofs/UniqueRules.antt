@@ -1,86 +1,67 @@
 -- The tokens are one rule's with its arguments.
-use Rattle.std.proofs.Common.{◌≡◌, ℕ, List, [], ◌∷◌, length, map, refl, sym, ap, ◌∙◌, Option, None, Some}
+use Rattle.std.proofs.Common.{◌≡◌, ℕ, List, [], ◌∷◌, length, map, refl, sym, ap, ◌∙◌, None, Some}
 use Rattle.std.specs.Prelude.{codes}
 use Rattle.hol_model.specs.declared.symbol.Symbol.TheVariants.{Backquote, Comma}
 use Rattle.hol_model.specs.Texts.Token.{Token, Name, Mark}
 use Rattle.hol_model.specs.Texts.TypeGrammar.{TypeTree, type_tokens}
 use Rattle.hol_model.specs.Texts.TermGrammar.{TermTree, IsWithin}
 use Rattle.hol_model_rules.specs.declared.rule_name.RuleName.{RuleName}
-use Rattle.hol_model_rules.specs.declared.rule_name.RuleName.TheVariants.{Refl, Trans, MkComb, Abs, Beta, Assume, EqMp, DeductAntisym, EtaAxiom, SelectAxiom, Sym, AddAssum, ProveHyp, EqtIntro, EqtElim}
-use Rattle.hol_model_rules.specs.declared.rule_name.RuleName.TheVariants.{BetaConv, Conj, Conjunct1, Conjunct2, Disch, Undisch, Mp, Spec, Gen, Disj1, Disj2, DisjCases, Contr, NotIntro, NotElim, Exists}
-use Rattle.hol_model_rules.specs.declared.rule_name.RuleName.TheVariants.{Choose}
-use Rattle.hol_model_rules.specs.RuleForms.{form_of}
-use Rattle.hol_model_sessions.specs.Commands.{RuleTree, by_name, by_inst, by_inst_type, quoted, quote_tokens, further_tokens, first_tokens, term_pair, type_pair, quotes_tokens, argument_tokens, rule_tokens}
+use Rattle.hol_model_rules.specs.RuleForms.{form_of, IsRuleOf}
+use Rattle.hol_model_sessions.specs.Commands.{RuleTree, by_name, by_inst, by_inst_type, quoted, quote_tokens, further_tokens, first_tokens, term_pair, type_pair, quotes_tokens, argument_tokens, rule_word, rule_tokens}
 use Rattle.hol_model_sessions.specs.Commands.{IsQuotable, ArePairs, AreTypePairs, AreQuotable, IsRuleTree}
 use Rattle.hol_laws_sessions.specs.UniqueReadings.{SameParse, QuotesAreUnambiguous, TypeQuotesAreUnambiguous, RulesAreUnambiguous}
-use Rattle.hol_laws_sessions.proofs.UniqueConversions.{look_up, look_up_first}
+use Rattle.hol_model_rules.proofs.Words.{found-word}
+use Rattle.hol_laws_sessions.proofs.UniqueConversions.{look_up}
 
 -- ---- words
+
+-- no two rules have one word
+same_word : (a b : RuleName) → (form_of a).word ≡ (form_of b).word → a ≡ b
+same_word a b same =
+    let known : IsRuleOf (form_of a).word _ = found-word (form_of a).word _ refl in
+    let both : Some a ≡ Some b = sym ((known a).1 refl) ∙ (known b).1 same in
+    cc
+
+-- a word that is no rule's
+no_rule_of : {A : Type 0} (rule : RuleName) (word : List ℕ) → IsRuleOf word None → word ≡ (form_of rule).word → A
+no_rule_of rule word unknown same = let wrong : None ≡ Some rule = (unknown rule).1 same in cc
 
 pub data Start : Type 0 where
   name_start : RuleName → Start
   inst_start : Start
   inst_type_start : Start
 
-abbrev of_name : RuleName → List ℕ × Start
-of_name rule = ((form_of rule).word, name_start rule)
-
-abbrev pub starts : List (List ℕ × Start)
-starts = (codes "INST", inst_start) ∷ (codes "INST_TYPE", inst_type_start) ∷ map of_name (Refl ∷ Trans ∷ MkComb ∷ Abs ∷ Beta ∷ Assume ∷ EqMp ∷ DeductAntisym ∷ EtaAxiom ∷ SelectAxiom ∷ Sym ∷ AddAssum
-    ∷ ProveHyp ∷ EqtIntro ∷ EqtElim ∷ BetaConv ∷ Conj ∷ Conjunct1 ∷ Conjunct2 ∷ Disch ∷ Undisch ∷ Mp ∷ Spec ∷ Gen ∷ Disj1 ∷ Disj2 ∷ DisjCases ∷ Contr ∷ NotIntro ∷ NotElim ∷ Exists ∷ Choose ∷ [])
-
 abbrev start_of : RuleTree → Start
 start_of (by_name rule trees names) = name_start rule
 start_of (by_inst pairs a) = inst_start
 start_of (by_inst_type pairs a) = inst_type_start
 
-name-starts : (rule : RuleName) → look_up starts (form_of rule).word ≡ Some (name_start rule)
-name-starts Refl = refl
-name-starts Trans = refl
-name-starts MkComb = refl
-name-starts Abs = refl
-name-starts Beta = refl
-name-starts Assume = refl
-name-starts EqMp = refl
-name-starts DeductAntisym = refl
-name-starts EtaAxiom = refl
-name-starts SelectAxiom = refl
-name-starts Sym = refl
-name-starts AddAssum = refl
-name-starts ProveHyp = refl
-name-starts EqtIntro = refl
-name-starts EqtElim = refl
-name-starts BetaConv = refl
-name-starts Conj = refl
-name-starts Conjunct1 = refl
-name-starts Conjunct2 = refl
-name-starts Disch = refl
-name-starts Undisch = refl
-name-starts Mp = refl
-name-starts Spec = refl
-name-starts Gen = refl
-name-starts Disj1 = refl
-name-starts Disj2 = refl
-name-starts DisjCases = refl
-name-starts Contr = refl
-name-starts NotIntro = refl
-name-starts NotElim = refl
-name-starts Exists = refl
-name-starts Choose = refl
+-- what takes pairs
+abbrev pub starts_of_pairs : List (List ℕ × Start)
+starts_of_pairs = (codes "INST", inst_start) ∷ (codes "INST_TYPE", inst_type_start) ∷ []
 
-rule-starts : (tree : RuleTree) → look_up_first starts (rule_tokens tree) ≡ Some (start_of tree)
-rule-starts (by_name rule trees names) = name-starts rule
-rule-starts (by_inst pairs a) = refl
-rule-starts (by_inst_type pairs a) = refl
+inst-unknown : IsRuleOf (codes "INST") None
+inst-unknown = found-word (codes "INST") None refl
 
-one_start : (a b : RuleTree) → rule_tokens a ≡ rule_tokens b → start_of a ≡ start_of b
-one_start a b same =
-    let whole : ◌≡◌ {A = Option Start} (Some (start_of a)) (Some (start_of b)) = sym (rule-starts a) ∙ ap (look_up_first starts) same ∙ rule-starts b in
-    cc
+inst_type-unknown : IsRuleOf (codes "INST_TYPE") None
+inst_type-unknown = found-word (codes "INST_TYPE") None refl
+
+one_start : (a b : RuleTree) → rule_word a ≡ rule_word b → start_of a ≡ start_of b
+one_start (by_name rule trees names) (by_name other trees' names') same = ap name_start (same_word rule other same)
+one_start (by_name rule trees names) (by_inst pairs a) same = no_rule_of rule (codes "INST") inst-unknown (sym same)
+one_start (by_name rule trees names) (by_inst_type pairs a) same = no_rule_of rule (codes "INST_TYPE") inst_type-unknown (sym same)
+one_start (by_inst pairs a) (by_name rule trees names) same = no_rule_of rule (codes "INST") inst-unknown same
+one_start (by_inst_type pairs a) (by_name rule trees names) same = no_rule_of rule (codes "INST_TYPE") inst_type-unknown same
+one_start a b same = let found : look_up starts_of_pairs (rule_word a) ≡ look_up starts_of_pairs (rule_word b) = ap (look_up starts_of_pairs) same in cc
 
 -- tokens that begin with another word are no rule's
-pub begins_no_rule : {A : Type 0} (tree : RuleTree) (tokens : List Token) → rule_tokens tree ≡ tokens → look_up_first starts tokens ≡ None → A
-begins_no_rule tree tokens same none = (let one : ◌≡◌ {A = Option Start} (Some (start_of tree)) None = sym (rule-starts tree) ∙ ap (look_up_first starts) same ∙ none in cc)
+pub begins_no_rule : {A : Type 0} (tree : RuleTree) (word : List ℕ) (rest : List Token) → IsRuleOf word None → look_up starts_of_pairs word ≡ None → rule_tokens tree ≡ Name word ∷ rest → A
+begins_no_rule {A} tree word rest unknown other same = go tree (let worded : rule_word tree ≡ word = cc in worded)
+  where
+    go : (tree : RuleTree) → rule_word tree ≡ word → A
+    go (by_name rule trees names) worded = no_rule_of rule word unknown (sym worded)
+    go (by_inst pairs a) worded = (let found : Some inst_start ≡ None = ap (look_up starts_of_pairs) worded ∙ other in cc)
+    go (by_inst_type pairs a) worded = (let found : Some inst_type_start ≡ None = ap (look_up starts_of_pairs) worded ∙ other in cc)
 
 -- ---- lists of names
 
@@ -192,4 +173,5 @@ module _ (quotes : QuotesAreUnambiguous) (type_quotes : TypeQuotesAreUnambiguous
 pub rules-unambiguous : QuotesAreUnambiguous → TypeQuotesAreUnambiguous → RulesAreUnambiguous
 rules-unambiguous quotes type_quotes a b ga gb same =
     let behind : argument_tokens a ≡ argument_tokens b = cc in
-    rule-same quotes type_quotes a b ga gb behind (one_start a b same)
+    let worded : rule_word a ≡ rule_word b = cc in
+    rule-same quotes type_quotes a b ga gb behind (one_start a b worded)

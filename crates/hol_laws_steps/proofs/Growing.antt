@@ -2,20 +2,15 @@
 use Rattle.std.proofs.Common.{◌≡◌, List, [], ◌∷◌, ◌++◌, Bool, true, false, ◌&&◌, refl, Option, Some, None}
 use Rattle.std.specs.Prelude.{slice_get}
 use Rattle.std.specs.List.{list_all}
-use Rattle.hol_model.specs.Terms.HolType.{HolType, bool_type, replaces_type_variables}
-use Rattle.hol_model.specs.Terms.NamedTerm.{NamedTerm, dest_variable}
-use Rattle.hol_model.specs.Terms.Nameless.{Nameless, image, nameless_type, same_term}
-use Rattle.hol_model.specs.Terms.Substitution.{fill, replaces_variables}
+use Rattle.hol_model.specs.Terms.HolType.{HolType}
+use Rattle.hol_model.specs.Terms.Nameless.{Nameless}
 use Rattle.hol_model.specs.Logic.Theory.{Theory, IsEarlier, IsLegal, IsKnown, IsKnownType}
 use Rattle.hol_model.specs.Logic.KnownTerm.{knows_type}
 use Rattle.hol_model.specs.Logic.Checks.{knows_nameless}
-use Rattle.hol_model.specs.Logic.Logic.{false_term}
-use Rattle.hol_model.specs.Kernel.Rules.{dest_trivial_redex}
-use Rattle.hol_model.specs.Logic.NamelessLogic.{dest_equation, dest_forall, dest_exists, dest_redex}
 use Rattle.hol_model.specs.Goals.Goals.{Sequent}
 use Rattle.hol_model.specs.Derived.InferenceRules.{InferenceRule}
 use Rattle.hol_model.specs.declared.rule.Rule.TheVariants as rules
-use Rattle.hol_model.specs.Derived.Inference.{Inference, infer, require, given, drawn, is_known_formula, is_known_term, may_replace, may_replace_types, conclusions_of, hypotheses_of, rule_sequent}
+use Rattle.hol_model.specs.Derived.Inference.{Inference, infer, require, given, drawn, conclusions_of, hypotheses_of, rule_sequent}
 use Rattle.hol_model.proofs.Logic.Later.{head_is_new, rest_is_legal, IsKnownType-later, IsKnown-later}
 use Rattle.hol_model.proofs.Terms.TypeTests.{knows_type-Decides}
 use Rattle.hol_model.proofs.Logic.Checks.{knows_nameless-Decides}
@@ -52,163 +47,68 @@ abbrev IsKept : {A : Type 0} → Option A → Option A → Type 0
 IsKept None again = Unit {0}
 IsKept (Some x) again = again ≡ Some x
 
+-- what passes the first test passes the second
+record IsPassed (first second : Bool) : Type 0 where
+  passed : first ≡ true → second ≡ true
+
 kept-self : {A : Type 0} (answer : Option A) → IsKept answer answer
 kept-self None = tt
 kept-self (Some x) = refl
 
-kept-required : {A : Type 0} (first second : Bool) (answer : Option A) → (first ≡ true → second ≡ true) → IsKept (require first answer) (require second answer)
+kept-required : {A : Type 0} (first second : Bool) (answer : Option A) → IsPassed first second → IsKept (require first answer) (require second answer)
 kept-required false second answer more = tt
-kept-required true second answer more = rw (more refl) (kept-self answer)
+kept-required true second answer more = rw (more.passed refl) (kept-self answer)
 
 kept-given : {A B : Type 0} (found : Option A) (first second : A → Option B) → ((x : A) → IsKept (first x) (second x)) → IsKept (given found first) (given found second)
 kept-given None first second each = tt
 kept-given (Some x) first second each = each x
 
-both-later : (test first second : Bool) → (first ≡ true → second ≡ true) → (test && first) ≡ true → (test && second) ≡ true
-both-later test first second more passed = both test second (first_of_both test first passed) (more (second_of_both test first passed))
+passed-self : (test : Bool) → IsPassed test test
+passed-self test = record { passed = λ is. is }
 
-three-later : (a b c d test : Bool) → (a ≡ true → c ≡ true) → (b ≡ true → d ≡ true) → (a && b && test) ≡ true → (c && d && test) ≡ true
-three-later true true c d true first second passed = rw (first refl, second refl) refl
-three-later true true c d false first second passed = cc
-three-later true false c d test first second passed = cc
-three-later false b c d test first second passed = cc
+passed-both : (a b c d : Bool) → IsPassed a c → IsPassed b d → IsPassed (a && b) (c && d)
+passed-both a b c d first second = record { passed = λ is. both c d (first.passed (first_of_both a b is)) (second.passed (second_of_both a b is)) }
 
-list_all-later : {A : Type 0} (first second : A → Bool) (xs : List A) → ((x : A) → first x ≡ true → second x ≡ true) → list_all first xs ≡ true → list_all second xs ≡ true
-list_all-later first second [] more passed = refl
-list_all-later first second (x ∷ xs) more passed =
-    both (second x) (list_all second xs) (more x (first_of_both (first x) (list_all first xs) passed)) (list_all-later first second xs more (second_of_both (first x) (list_all first xs) passed))
-
-may_replace-later : (earlier now : Theory) → KnowsMore earlier now → (theta : List (NamedTerm × NamedTerm)) → may_replace earlier theta ≡ true → may_replace now theta ≡ true
-may_replace-later earlier now later theta =
-    both-later (replaces_variables theta) _ _
-    (list_all-later (λ (pair : NamedTerm × NamedTerm). knows_nameless earlier (image pair.0) (nameless_type [] (image pair.1)))
-    (λ (pair : NamedTerm × NamedTerm). knows_nameless now (image pair.0) (nameless_type [] (image pair.1))) theta
-    (λ pair known. later.terms (image pair.0) (nameless_type [] (image pair.1)) known))
-
-may_replace_types-later : (earlier now : Theory) → KnowsMore earlier now → (theta : List (HolType × HolType)) → may_replace_types earlier theta ≡ true → may_replace_types now theta ≡ true
-may_replace_types-later earlier now later theta =
-    both-later (replaces_type_variables theta) _ _
-    (list_all-later (λ (pair : HolType × HolType). knows_type earlier pair.0) (λ (pair : HolType × HolType). knows_type now pair.0) theta (λ pair known. later.types pair.0 known))
+passed-all : {A : Type 0} (first second : A → Bool) (xs : List A) → ((x : A) → IsPassed (first x) (second x)) → IsPassed (list_all first xs) (list_all second xs)
+passed-all first second [] more = record { passed = λ is. refl }
+passed-all first second (x ∷ xs) more = passed-both (first x) (list_all first xs) (second x) (list_all second xs) (more x) (passed-all first second xs more)
 
 -- what a rule makes of its premises' conclusions, it makes over the later theory
+module _ (earlier now : Theory) (later : KnowsMore earlier now) where
+  passed-type : (ty : HolType) → IsPassed (knows_type earlier ty) (knows_type now ty)
+  passed-type ty = record { passed = later.types ty }
+
+  passed-term : (term : Nameless) (ty : HolType) → IsPassed (knows_nameless earlier term ty) (knows_nameless now term ty)
+  passed-term term ty = record { passed = later.terms term ty }
+
+  ruleset keeps = (kept-self, kept-given, kept-required, passed-self, passed-both, passed-all, passed-type, passed-term)
+
+  kept-by_none : (rule : InferenceRule) → IsKept (infer earlier rule []) (infer now rule [])
+  kept-by_none rules.EtaAxiom = search keeps
+  kept-by_none rule = search keeps
+
+  kept-by_one : (rule : InferenceRule) (a : Nameless) → IsKept (infer earlier rule (a ∷ [])) (infer now rule (a ∷ []))
+  kept-by_one rules.Sym a = search keeps
+  kept-by_one rule a = search keeps
+
+  kept-by_two : (rule : InferenceRule) (a b : Nameless) → IsKept (infer earlier rule (a ∷ b ∷ [])) (infer now rule (a ∷ b ∷ []))
+  kept-by_two rules.Trans a b = search keeps
+  kept-by_two rule a b = search keeps
+
+  kept-by_three : (rule : InferenceRule) (a b c : Nameless) → IsKept (infer earlier rule (a ∷ b ∷ c ∷ [])) (infer now rule (a ∷ b ∷ c ∷ []))
+  kept-by_three rules.DisjCases a b c = search keeps
+  kept-by_three rule a b c = search keeps
+
+  kept-by_more : (rule : InferenceRule) (a b c d : Nameless) (more : List Nameless) → IsKept (infer earlier rule (a ∷ b ∷ c ∷ d ∷ more)) (infer now rule (a ∷ b ∷ c ∷ d ∷ more))
+  kept-by_more rules.DisjCases a b c d more = search keeps
+  kept-by_more rule a b c d more = search keeps
+
 infer-later : (earlier now : Theory) → KnowsMore earlier now → (rule : InferenceRule) (conclusions : List Nameless) → IsKept (infer earlier rule conclusions) (infer now rule conclusions)
-infer-later earlier now later (rules.Refl t) [] = kept-required (is_known_term earlier (image t)) (is_known_term now (image t)) _ (later.terms (image t) (nameless_type [] (image t)))
-infer-later earlier now later (rules.Refl t) (d ∷ more) = tt
-infer-later earlier now later rules.Trans [] = tt
-infer-later earlier now later rules.Trans (a ∷ []) = tt
-infer-later earlier now later rules.Trans (a ∷ b ∷ []) = kept-self (infer earlier rules.Trans (a ∷ b ∷ []))
-infer-later earlier now later rules.Trans (a ∷ b ∷ d ∷ more) = tt
-infer-later earlier now later rules.MkComb [] = tt
-infer-later earlier now later rules.MkComb (a ∷ []) = tt
-infer-later earlier now later rules.MkComb (a ∷ b ∷ []) = kept-self (infer earlier rules.MkComb (a ∷ b ∷ []))
-infer-later earlier now later rules.MkComb (a ∷ b ∷ d ∷ more) = tt
-infer-later earlier now later (rules.Abs x) [] = tt
-infer-later earlier now later (rules.Abs x) (a ∷ []) = kept-given (dest_variable x) _ _
-    (λ binder. kept-given (dest_equation a) _ _ (λ sides. kept-required (knows_type earlier binder.1) (knows_type now binder.1) _ (later.types binder.1)))
-infer-later earlier now later (rules.Abs x) (a ∷ d ∷ more) = tt
-infer-later earlier now later (rules.Beta t) [] = kept-given (dest_trivial_redex t) _ _
-    (λ body. kept-required (is_known_term earlier (image t)) (is_known_term now (image t)) _ (later.terms (image t) (nameless_type [] (image t))))
-infer-later earlier now later (rules.Beta t) (d ∷ more) = tt
-infer-later earlier now later (rules.Assume p) [] = kept-required (is_known_formula earlier (image p)) (is_known_formula now (image p)) _ (later.terms (image p) bool_type)
-infer-later earlier now later (rules.Assume p) (d ∷ more) = tt
-infer-later earlier now later rules.EqMp [] = tt
-infer-later earlier now later rules.EqMp (a ∷ []) = tt
-infer-later earlier now later rules.EqMp (a ∷ b ∷ []) = kept-self (infer earlier rules.EqMp (a ∷ b ∷ []))
-infer-later earlier now later rules.EqMp (a ∷ b ∷ d ∷ more) = tt
-infer-later earlier now later rules.DeductAntisym [] = tt
-infer-later earlier now later rules.DeductAntisym (a ∷ []) = tt
-infer-later earlier now later rules.DeductAntisym (a ∷ b ∷ []) = kept-self (infer earlier rules.DeductAntisym (a ∷ b ∷ []))
-infer-later earlier now later rules.DeductAntisym (a ∷ b ∷ d ∷ more) = tt
-infer-later earlier now later (rules.Inst theta) [] = tt
-infer-later earlier now later (rules.Inst theta) (a ∷ []) = kept-required (may_replace earlier theta.items) (may_replace now theta.items) _ (may_replace-later earlier now later theta.items)
-infer-later earlier now later (rules.Inst theta) (a ∷ d ∷ more) = tt
-infer-later earlier now later (rules.InstType theta) [] = tt
-infer-later earlier now later (rules.InstType theta) (a ∷ []) =
-    kept-required (may_replace_types earlier theta.items) (may_replace_types now theta.items) _ (may_replace_types-later earlier now later theta.items)
-infer-later earlier now later (rules.InstType theta) (a ∷ d ∷ more) = tt
-infer-later earlier now later rules.EtaAxiom [] = kept-self (infer earlier rules.EtaAxiom [])
-infer-later earlier now later rules.EtaAxiom (d ∷ more) = tt
-infer-later earlier now later rules.SelectAxiom [] = kept-self (infer earlier rules.SelectAxiom [])
-infer-later earlier now later rules.SelectAxiom (d ∷ more) = tt
-infer-later earlier now later rules.Sym [] = tt
-infer-later earlier now later rules.Sym (a ∷ []) = kept-self (infer earlier rules.Sym (a ∷ []))
-infer-later earlier now later rules.Sym (a ∷ d ∷ more) = tt
-infer-later earlier now later (rules.AddAssum p) [] = tt
-infer-later earlier now later (rules.AddAssum p) (a ∷ []) = kept-required (is_known_formula earlier (image p)) (is_known_formula now (image p)) _ (later.terms (image p) bool_type)
-infer-later earlier now later (rules.AddAssum p) (a ∷ d ∷ more) = tt
-infer-later earlier now later rules.ProveHyp [] = tt
-infer-later earlier now later rules.ProveHyp (a ∷ []) = tt
-infer-later earlier now later rules.ProveHyp (a ∷ b ∷ []) = kept-self (infer earlier rules.ProveHyp (a ∷ b ∷ []))
-infer-later earlier now later rules.ProveHyp (a ∷ b ∷ d ∷ more) = tt
-infer-later earlier now later rules.EqtIntro [] = tt
-infer-later earlier now later rules.EqtIntro (a ∷ []) = kept-self (infer earlier rules.EqtIntro (a ∷ []))
-infer-later earlier now later rules.EqtIntro (a ∷ d ∷ more) = tt
-infer-later earlier now later rules.EqtElim [] = tt
-infer-later earlier now later rules.EqtElim (a ∷ []) = kept-self (infer earlier rules.EqtElim (a ∷ []))
-infer-later earlier now later rules.EqtElim (a ∷ d ∷ more) = tt
-infer-later earlier now later (rules.BetaConv t) [] = kept-given (dest_redex (image t)) _ _
-    (λ redex. kept-required (is_known_term earlier (image t)) (is_known_term now (image t)) _ (later.terms (image t) (nameless_type [] (image t))))
-infer-later earlier now later (rules.BetaConv t) (d ∷ more) = tt
-infer-later earlier now later rules.Conj [] = tt
-infer-later earlier now later rules.Conj (a ∷ []) = tt
-infer-later earlier now later rules.Conj (a ∷ b ∷ []) = kept-self (infer earlier rules.Conj (a ∷ b ∷ []))
-infer-later earlier now later rules.Conj (a ∷ b ∷ d ∷ more) = tt
-infer-later earlier now later rules.Conjunct1 [] = tt
-infer-later earlier now later rules.Conjunct1 (a ∷ []) = kept-self (infer earlier rules.Conjunct1 (a ∷ []))
-infer-later earlier now later rules.Conjunct1 (a ∷ d ∷ more) = tt
-infer-later earlier now later rules.Conjunct2 [] = tt
-infer-later earlier now later rules.Conjunct2 (a ∷ []) = kept-self (infer earlier rules.Conjunct2 (a ∷ []))
-infer-later earlier now later rules.Conjunct2 (a ∷ d ∷ more) = tt
-infer-later earlier now later (rules.Disch p) [] = tt
-infer-later earlier now later (rules.Disch p) (a ∷ []) = kept-required (is_known_formula earlier (image p)) (is_known_formula now (image p)) _ (later.terms (image p) bool_type)
-infer-later earlier now later (rules.Disch p) (a ∷ d ∷ more) = tt
-infer-later earlier now later rules.Undisch [] = tt
-infer-later earlier now later rules.Undisch (a ∷ []) = kept-self (infer earlier rules.Undisch (a ∷ []))
-infer-later earlier now later rules.Undisch (a ∷ d ∷ more) = tt
-infer-later earlier now later rules.Mp [] = tt
-infer-later earlier now later rules.Mp (a ∷ []) = tt
-infer-later earlier now later rules.Mp (a ∷ b ∷ []) = kept-self (infer earlier rules.Mp (a ∷ b ∷ []))
-infer-later earlier now later rules.Mp (a ∷ b ∷ d ∷ more) = tt
-infer-later earlier now later (rules.Spec t) [] = tt
-infer-later earlier now later (rules.Spec t) (a ∷ []) = kept-given (dest_forall a) _ _
-    (λ quantified. kept-required (knows_nameless earlier (image t) quantified.0) (knows_nameless now (image t) quantified.0) _ (later.terms (image t) quantified.0))
-infer-later earlier now later (rules.Spec t) (a ∷ d ∷ more) = tt
-infer-later earlier now later (rules.Gen x) [] = tt
-infer-later earlier now later (rules.Gen x) (a ∷ []) = kept-given (dest_variable x) _ _ (λ binder. kept-required (knows_type earlier binder.1) (knows_type now binder.1) _ (later.types binder.1))
-infer-later earlier now later (rules.Gen x) (a ∷ d ∷ more) = tt
-infer-later earlier now later (rules.Disj1 q) [] = tt
-infer-later earlier now later (rules.Disj1 q) (a ∷ []) = kept-required (is_known_formula earlier (image q)) (is_known_formula now (image q)) _ (later.terms (image q) bool_type)
-infer-later earlier now later (rules.Disj1 q) (a ∷ d ∷ more) = tt
-infer-later earlier now later (rules.Disj2 p) [] = tt
-infer-later earlier now later (rules.Disj2 p) (a ∷ []) = kept-required (is_known_formula earlier (image p)) (is_known_formula now (image p)) _ (later.terms (image p) bool_type)
-infer-later earlier now later (rules.Disj2 p) (a ∷ d ∷ more) = tt
-infer-later earlier now later rules.DisjCases [] = tt
-infer-later earlier now later rules.DisjCases (a ∷ []) = tt
-infer-later earlier now later rules.DisjCases (a ∷ b ∷ []) = tt
-infer-later earlier now later rules.DisjCases (a ∷ b ∷ c ∷ []) = kept-self (infer earlier rules.DisjCases (a ∷ b ∷ c ∷ []))
-infer-later earlier now later rules.DisjCases (a ∷ b ∷ c ∷ d ∷ more) = tt
-infer-later earlier now later (rules.Contr p) [] = tt
-infer-later earlier now later (rules.Contr p) (a ∷ []) = kept-required (same_term a false_term && is_known_formula earlier (image p))
-    (same_term a false_term && is_known_formula now (image p)) _ (both-later (same_term a false_term) (is_known_formula earlier (image p)) (is_known_formula now (image p))
-    (later.terms (image p) bool_type))
-infer-later earlier now later (rules.Contr p) (a ∷ d ∷ more) = tt
-infer-later earlier now later rules.NotIntro [] = tt
-infer-later earlier now later rules.NotIntro (a ∷ []) = kept-self (infer earlier rules.NotIntro (a ∷ []))
-infer-later earlier now later rules.NotIntro (a ∷ d ∷ more) = tt
-infer-later earlier now later rules.NotElim [] = tt
-infer-later earlier now later rules.NotElim (a ∷ []) = kept-self (infer earlier rules.NotElim (a ∷ []))
-infer-later earlier now later rules.NotElim (a ∷ d ∷ more) = tt
-infer-later earlier now later (rules.Exists e w) [] = tt
-infer-later earlier now later (rules.Exists e w) (a ∷ []) = kept-given (dest_exists (image e)) _ _
-    (λ quantified. kept-required (is_known_formula earlier (image e) && knows_nameless earlier (image w) quantified.0 && same_term (fill (image w) quantified.1) a)
-    (is_known_formula now (image e) && knows_nameless now (image w) quantified.0 && same_term (fill (image w) quantified.1) a) _
-    (three-later (is_known_formula earlier (image e)) (knows_nameless earlier (image w) quantified.0) (is_known_formula now (image e)) (knows_nameless now (image w) quantified.0)
-    (same_term (fill (image w) quantified.1) a) (later.terms (image e) bool_type) (later.terms (image w) quantified.0)))
-infer-later earlier now later (rules.Exists e w) (a ∷ d ∷ more) = tt
-infer-later earlier now later (rules.Choose v) [] = tt
-infer-later earlier now later (rules.Choose v) (a ∷ []) = tt
-infer-later earlier now later (rules.Choose v) (a ∷ b ∷ []) = kept-self (infer earlier (rules.Choose v) (a ∷ b ∷ []))
-infer-later earlier now later (rules.Choose v) (a ∷ b ∷ d ∷ more) = tt
+infer-later earlier now later rule [] = kept-by_none earlier now later rule
+infer-later earlier now later rule (a ∷ []) = kept-by_one earlier now later rule a
+infer-later earlier now later rule (a ∷ b ∷ []) = kept-by_two earlier now later rule a b
+infer-later earlier now later rule (a ∷ b ∷ c ∷ []) = kept-by_three earlier now later rule a b c
+infer-later earlier now later rule (a ∷ b ∷ c ∷ d ∷ more) = kept-by_more earlier now later rule a b c d more
 
 rule-later : (earlier now : Theory) → KnowsMore earlier now → (rule : InferenceRule) (premises : List Sequent) → AnswersAsStrong (rule_sequent now rule premises) (rule_sequent earlier rule premises)
 rule-later earlier now later rule premises =
