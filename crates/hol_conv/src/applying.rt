@@ -13,12 +13,12 @@ ghost use Rattle.hol_conv.specs.Answers.{ConvertsOver};
 
 use crate::by_rules::ByRules;
 use crate::converting::convert;
+use crate::leaves::Made;
 use crate::over_host::OverHost;
 use crate::preparing::prepare;
 use hol_conv_rules::NamedRules;
 use hol_host::Converters;
 use hol_journal::Rec;
-use hol_model::Fault;
 use hol_rewrite::choice_of;
 use hol_tactic_exprs::{Conv, Fuel, Prefix};
 use hol_terms::Term;
@@ -41,7 +41,7 @@ pub fn apply<H: Converters>(
     conv: &Conv,
     t: &Term,
     fuel: &mut Fuel,
-) -> Result<Rec, Fault>
+) -> Made
     requires library { IsLibrary library.old }
     requires known { is_known library.old.recorder.theory t.now ≡ true }
     ensures outcome { ConvertsOver library.old (H.conversions hosts.now) 0 fuel.old.left (conversion_of conv.now) t.now result fuel.new.left }
@@ -61,7 +61,7 @@ fn apply_prepared<H: Converters>(
     conv: &Conv,
     t: &Term,
     fuel: &mut Fuel,
-) -> Result<Rec, Fault>
+) -> Made
     requires library { IsLibrary library.old }
     requires prepared { ArePrepared library.old prepared.now }
     requires known { is_known library.old.recorder.theory t.now ≡ true }
@@ -84,7 +84,7 @@ pub fn rewrite<H: Converters>(
     rules: &[Rec],
     t: &Term,
     fuel: &mut Fuel,
-) -> Result<Rec, Fault>
+) -> Made
     requires library { IsLibrary library.old }
     requires known { is_known library.old.recorder.theory t.now ≡ true }
     requires made { AreMade library.old.recorder rules.now }

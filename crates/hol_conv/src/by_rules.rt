@@ -1,6 +1,6 @@
 // Rewriting by rules in place of the conversions without parts.
 
-use crate::leaves::Leaves;
+use crate::leaves::{Leaves, Made};
 use hol_conv_rules::rules_conv;
 use hol_host::Converters;
 use hol_journal::Rec;
@@ -9,7 +9,6 @@ use hol_rewrite::Choice;
 use hol_tactic_exprs::{Conv, Fuel};
 use hol_terms::Term;
 use hol_theorem_library::Library;
-use std::alloc::Global;
 
 /// Rewriting by these rules, whatever the conversion without parts. A host's conversions stand beside it, and none is called.
 #[derive(Drop)]
@@ -30,14 +29,7 @@ impl<'a, H: Converters> Leaves for ByRules<'a, H> {
 
     ghost is_ready = { λ leaves library. AreReady leaves.rules.now leaves.choice.now library };
 
-    fn try_leaf(
-        &self,
-        library: &mut Library,
-        alloc: Global,
-        _leaf: &Conv,
-        t: &Term,
-        fuel: &mut Fuel,
-    ) -> Result<Rec, Fault> {
+    fn try_leaf(&self, library: &mut Library, _leaf: &Conv, t: &Term, fuel: &mut Fuel) -> Made {
         if !fuel.spend() {
             return Err(Fault::StepLimit);
         }

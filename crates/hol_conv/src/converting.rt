@@ -10,12 +10,11 @@ ghost use Rattle.hol_conv.specs.Leaves.{IsLeaf, stands_for, thenc_of, orelsec_of
 ghost use Rattle.hol_conv.specs.Answers.{IsAsked, ConvertsOver, AnswersOver};
 
 use crate::chain::{Linked, begin, changed, link, or_same, same};
-use crate::leaves::Leaves;
+use crate::leaves::{Leaves, Made};
 use crate::parts::{abstraction, combination};
 use hol_conv_rules::{
     Converted, as_answer, of_argument, of_body, of_function, of_parts, right_of, then, theorem,
 };
-use hol_journal::Rec;
 use hol_model::{DESCENTS_LIMIT, Fault};
 use hol_tactic_exprs::{Conv, Fuel, Prefix, is_caught};
 use hol_terms::{Parts, Term};
@@ -33,7 +32,7 @@ pub fn convert<L: Leaves>(
     t: &Term,
     depth: u32,
     fuel: &mut Fuel,
-) -> Result<Rec, Fault>
+) -> Made
     requires asked { IsAsked (L.is_ready leaves.now) library.old t.now }
     ensures converts { ConvertsOver library.old (L.hosts leaves.now) depth fuel.old.left (stands_for (L.means leaves.now) conv.now) t.now result fuel.new.left }
     ensures makes { Makes library.old library.new result }
@@ -60,8 +59,7 @@ impl<L: Leaves> Level<'_, L> {
         ensures converts { (depth : ℕ) → AnswersOver library.old (L.hosts self.now.leaves.now) depth fuel.old.left (stands_for (L.means self.now.leaves.now) conv.now) t.now result fuel.new.left }
         ensures makes { MakesAnswer library.old library.new t.now result }
     {
-        let alloc = library.recorder.alloc();
-        as_answer(self.leaves.try_leaf(library, alloc, conv, t, fuel))
+        as_answer(self.leaves.try_leaf(library, conv, t, fuel))
     }
 
     // The same, where no theorem is made of what does not change.

@@ -13,7 +13,9 @@ use hol_model::Fault;
 use hol_tactic_exprs::{Conv, Fuel};
 use hol_terms::Term;
 use hol_theorem_library::Library;
-use std::alloc::Global;
+
+/// The theorem that a conversion answers.
+pub type Made = Result<Rec, Fault>;
 
 /// Tries conversions without parts. What is above is generic in it.
 pub trait Leaves {
@@ -27,14 +29,7 @@ pub trait Leaves {
     ghost is_ready: { Self → library.Library → Type 0 };
 
     /// Tries a conversion without parts on a term.
-    fn try_leaf(
-        &self,
-        library: &mut Library,
-        alloc: Global,
-        leaf: &Conv,
-        t: &Term,
-        fuel: &mut Fuel,
-    ) -> Result<Rec, Fault>
+    fn try_leaf(&self, library: &mut Library, leaf: &Conv, t: &Term, fuel: &mut Fuel) -> Made
         requires leaf { IsLeaf leaf.now }
         requires asked { IsAsked (is_ready self.now) library.old t.now }
         ensures converts { (depth : ℕ) → ConvertsOver library.old (hosts self.now) depth fuel.old.left (stands_for (means self.now) leaf.now) t.now result fuel.new.left }

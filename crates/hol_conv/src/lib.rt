@@ -13,4 +13,4 @@ mod preparing;
 
 pub use applying::{apply, rewrite};
 pub use converting::convert;
-pub use leaves::Leaves;
+pub use leaves::{Leaves, Made};

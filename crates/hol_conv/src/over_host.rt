@@ -9,16 +9,14 @@ ghost use Rattle.hol_conv_rules.specs.OneStep.{ConvertsInStep, RewritesByName};
 ghost use Rattle.hol_conv_rules.specs.Prepared.{ArePrepared};
 ghost use Rattle.hol_conv.specs.Leaves.{IsLeaf};
 
-use crate::leaves::Leaves;
+use crate::leaves::{Leaves, Made};
 use crate::preparing::prepared_for;
 use hol_conv_rules::{NamedRules, beta_conv, host_conv, prepared_rewr_conv, refl_known, rewr_conv};
 use hol_host::Converters;
-use hol_journal::Rec;
 use hol_model::Fault;
 use hol_tactic_exprs::{Conv, Fuel};
 use hol_terms::Term;
 use hol_theorem_library::Library;
-use std::alloc::Global;
 
 /// The conversions without parts, each as itself, over a host's conversions. The rules of some names are there.
 #[derive(Drop)]
@@ -36,14 +34,7 @@ impl<'a, H: Converters> Leaves for OverHost<'a, H> {
 
     ghost is_ready = { λ leaves library. ArePrepared library leaves.prepared.now };
 
-    fn try_leaf(
-        &self,
-        library: &mut Library,
-        alloc: Global,
-        leaf: &Conv,
-        t: &Term,
-        fuel: &mut Fuel,
-    ) -> Result<Rec, Fault> {
+    fn try_leaf(&self, library: &mut Library, leaf: &Conv, t: &Term, fuel: &mut Fuel) -> Made {
         if !fuel.spend() {
             return Err(Fault::StepLimit);
         }
@@ -54,12 +45,7 @@ impl<'a, H: Converters> Leaves for OverHost<'a, H> {
 }
 
 // REWR_CONV, by the rules that are there, or those made now.
-fn rewritten(
-    library: &mut Library,
-    prepared: &[NamedRules],
-    name: &str,
-    t: &Term,
-) -> Result<Rec, Fault>
+fn rewritten(library: &mut Library, prepared: &[NamedRules], name: &str, t: &Term) -> Made
     requires library { IsLibrary library.old }
     requires prepared { ArePrepared library.old prepared.now }
     requires known { is_known library.old.recorder.theory t.now ≡ true }
@@ -79,7 +65,7 @@ fn one_step<H: Converters>(
     prepared: &[NamedRules],
     leaf: &Conv,
     t: &Term,
-) -> Result<Rec, Fault>
+) -> Made
     requires leaf { IsLeaf leaf.now }
     requires library { IsLibrary library.old }
     requires prepared { ArePrepared library.old prepared.now }

@@ -4,7 +4,7 @@ ghost use Rattle.hol_model.specs.declared.fault.Fault.TheVariants.{Memory, Write
 ghost use Rattle.hol_script.specs.Managers.{IsManager};
 
 use crate::rerun::Rerun;
-use crate::walk::{Script, Walk, explain_piece, explain_rest};
+use crate::walk::{Walk, explain_piece, explain_rest};
 use hol_explain_hints::Place;
 use hol_host::Refiners;
 use hol_model::{Fault, Sink};
@@ -36,44 +36,36 @@ impl Follower {
         })
     }
 
-    /// Runs the command that is the text of a script, up to its `;;`, and writes a message, as `explain` does, where it is refused.
+    /// Runs the command that is the text of a walk's script, up to its `;;`, and writes what `explain` writes of it.
     /// Refused: Memory, and WriteFault where the sink failed; then the place of the next command is not known any more.
     pub fn follow<W: Sink, H: Refiners>(
         &mut self,
-        alloc: Global,
-        script: &Script<'_>,
-        host: &H,
+        walk: &Walk<'_, H>,
         writer: &mut W,
     ) -> Result<(), Fault>
         requires { W.has_failed writer.old ≡ false }
         ensures refusals { IfErr result (Contains (WriteFault ∷ Memory ∷ [])) }
         ensures unfailed { OnOk result (W.has_failed writer.new ≡ false) }
     {
-        let walk = Walk::new(alloc, script, host);
-        if !is_blank_text(script.text) {
+        let text = walk.script.text;
+        if !is_blank_text(text) {
             let Rerun { known, manager } = &mut self.rerun;
-            explain_piece(&walk, writer, known, manager, script.text, &self.place)?;
+            explain_piece(walk, writer, known, manager, text, &self.place)?;
         }
-        self.place = self.place.behind(script.text).behind(b";;");
+        self.place = self.place.behind(text).behind(b";;");
         Ok(())
     }
 
-    /// Writes a message where the text of a script, behind which no `;;` comes any more, holds more than white space. Refused:
-    /// Memory, and WriteFault where the sink failed.
-    pub fn end<W: Sink, H: Refiners>(
-        &self,
-        alloc: Global,
-        script: &Script<'_>,
-        host: &H,
-        writer: &mut W,
-    ) -> Result<(), Fault>
+    /// Writes what `explain` writes of a rest where the text of a walk's script, behind which no `;;` comes any more, holds more than
+    /// white space. Refused: Memory, and WriteFault where the sink failed.
+    pub fn end<W: Sink, H: Refiners>(&self, walk: &Walk<'_, H>, writer: &mut W) -> Result<(), Fault>
         requires { W.has_failed writer.old ≡ false }
         ensures { IfErr result (Contains (WriteFault ∷ Memory ∷ [])) }
     {
-        if is_blank_text(script.text) {
+        let text = walk.script.text;
+        if is_blank_text(text) {
             return Ok(());
         }
-        let walk = Walk::new(alloc, script, host);
-        explain_rest(&walk, writer, script.text, &self.place)
+        explain_rest(walk, writer, text, &self.place)
     }
 }

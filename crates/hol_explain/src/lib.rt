@@ -13,4 +13,4 @@ mod walk;
 pub use follow::Follower;
 pub use hol_explain_hints::{Origin, origin_of};
 pub use hol_script::{Ended, Refused, converse, run};
-pub use walk::{Script, explain, explain_refusal, write_records};
+pub use walk::{Script, Walk, explain, explain_refusal};

@@ -28,22 +28,33 @@ pub struct Script<'a> {
 /// A walk over a script, with the functions of a host: whether it tells each command by a record, or refused ones by a message and
 /// suspicious ones by notes.
 #[derive(Drop)]
-pub(crate) struct Walk<'a, H> {
+pub struct Walk<'a, H> {
     alloc: Global,
-    script: &'a Script<'a>,
+    pub(crate) script: &'a Script<'a>,
     host: &'a H,
     makes_records: bool,
 }
 
 impl<'s, H> Walk<'s, H> {
-    /// A walk that tells refused commands by messages.
-    pub(crate) fn new(alloc: Global, script: &'s Script<'s>, host: &'s H) -> Walk<'s, H> {
+    /// One that tells each command that is refused by a message: the file, and in it the line and the column of the part in question,
+    /// the refusal, and what was expected and what stands there. Of one that is accepted and suspicious it writes a note: the place,
+    /// and what it does that may not be meant.
+    pub fn new(alloc: Global, script: &'s Script<'s>, host: &'s H) -> Walk<'s, H> {
         Walk {
             alloc,
             script,
             host,
             makes_records: false,
         }
+    }
+
+    /// One that tells each command by a line of JSON: its file, where it begins and where it ends (lines and columns from 1, columns in
+    /// bytes), its first word, what a run prints for it (`text`), the open goals where it shows them, and its refusal with number,
+    /// name, place and message.
+    pub fn of_records(alloc: Global, script: &'s Script<'s>, host: &'s H) -> Walk<'s, H> {
+        let mut walk = Walk::new(alloc, script, host);
+        walk.makes_records = true;
+        walk
     }
 
     // With what parts of a command are tried.
@@ -299,8 +310,10 @@ fn explain_pieces<W: Sink, H: Refiners>(
     Ok(refused.saturating_add(1))
 }
 
-// Walks over a script, over a proof manager of its own.
-fn walk_over<W: Sink, H: Refiners>(walk: &Walk<'_, H>, writer: &mut W) -> Result<u64, Fault>
+/// Runs the commands of a walk's script once more, over a proof manager of its own, and writes what the walk tells of them. What that
+/// says takes part in no promise. Answers how many commands were refused, which are others than a run refused where a function of the
+/// host answers otherwise each time. Refused: Memory, and WriteFault where the sink failed.
+pub fn explain<W: Sink, H: Refiners>(walk: &Walk<'_, H>, writer: &mut W) -> Result<u64, Fault>
     requires { W.has_failed writer.old ≡ false }
     ensures { IfErr result (Contains (WriteFault ∷ Memory ∷ [])) }
 {
@@ -310,56 +323,13 @@ fn walk_over<W: Sink, H: Refiners>(walk: &Walk<'_, H>, writer: &mut W) -> Result
     refused
 }
 
-/// Runs the commands of a script once more, over a proof manager of its own, and writes a message for each that is refused:
-/// the file, and in it the line and the column of the part in question, the refusal, and what was expected and what stands there.
-/// Of one that is accepted and suspicious it writes a note: the place, and what it does that may not be meant.
-/// What the messages and notes say takes part in no promise. Answers how many commands were refused, which are others than a run
-/// refused where a function of the host answers otherwise each time. Refused: Memory, and WriteFault where the sink failed.
-pub fn explain<W: Sink, H: Refiners>(
-    alloc: Global,
-    script: &Script<'_>,
-    host: &H,
-    writer: &mut W,
-) -> Result<u64, Fault>
-    requires { W.has_failed writer.old ≡ false }
-    ensures { IfErr result (Contains (WriteFault ∷ Memory ∷ [])) }
-{
-    let walk = Walk::new(alloc, script, host);
-    walk_over(&walk, writer)
-}
-
-/// Runs the commands of a script over a proof manager of its own, and writes a line of JSON for each: its file, where it begins and
-/// where it ends (lines and columns from 1, columns in bytes), its first word, what a run prints for it (`text`), the open goals
-/// where it shows them, and its refusal with number, name, place and message. Answers how many were refused. Refused: Memory, and
-/// WriteFault where the sink failed.
-pub fn write_records<W: Sink, H: Refiners>(
-    alloc: Global,
-    script: &Script<'_>,
-    host: &H,
-    writer: &mut W,
-) -> Result<u64, Fault>
-    requires { W.has_failed writer.old ≡ false }
-    ensures { IfErr result (Contains (WriteFault ∷ Memory ∷ [])) }
-{
-    let walk = Walk {
-        alloc,
-        script,
-        host,
-        makes_records: true,
-    };
-    walk_over(&walk, writer)
-}
-
-/// What is said of the first command of a script, where that is refused so when a script begins. Refused: Memory.
+/// What a walk tells of the first command of its script, where that is refused so when a script begins. Refused: Memory.
 pub fn explain_refusal<H: Refiners>(
-    alloc: Global,
-    script: &Script<'_>,
-    host: &H,
+    walk: &Walk<'_, H>,
     refused: &Refused,
 ) -> Result<String, Fault> {
-    let walk = Walk::new(alloc, script, host);
-    let mut lines = Message::new(alloc);
-    explain_first(&walk, refused, &mut lines);
+    let mut lines = Message::new(walk.alloc);
+    explain_first(walk, refused, &mut lines);
     match lines.finish() {
         Ok(text) => Ok(text),
         Err(_) => Err(Fault::Memory),

@@ -27,6 +27,9 @@ pub enum Expansion {
     NoSubgoals(Rec),
 }
 
+/// That, or why the proof is not refined.
+pub type Told = Result<Expansion, Fault>;
+
 impl Attempt {
     /// The first open goal.
     #[tactic(auto, using(crate::proofs::Tops::no_focus, crate::proofs::Tops::done_focus, crate::proofs::Tops::focus_at))]
@@ -57,7 +60,7 @@ impl Attempt {
     }
 
     // Keeps the goals that are left open as the next stage.
-    fn proceed(&mut self, state: GoalState) -> Result<Expansion, Fault>
+    fn proceed(&mut self, state: GoalState) -> Told
         requires open { 0 < length state.goals.items }
         requires within { is_within_depth (grown_tree state.just) ≡ true }
         ensures reaches { Reaches (attempt_of self.old) (attempt_of self.new) (states.underway (state_of state)) result }
@@ -70,7 +73,7 @@ impl Attempt {
     }
 
     // Keeps the theorem of the goal as the next stage.
-    fn conclude(&mut self, alloc: Global, theorem: Rec) -> Result<Expansion, Fault>
+    fn conclude(&mut self, alloc: Global, theorem: Rec) -> Told
         ensures reaches { Reaches (attempt_of self.old) (attempt_of self.new) (states.proved theorem.theorem) result }
         ensures made { (journal : Journal) → IsMade journal theorem → IsAttemptMade journal self.old → IsAttemptMade journal self.new }
     {
@@ -80,12 +83,7 @@ impl Attempt {
     }
 
     // Proves the goal by a justification without subgoals.
-    fn finish<P: Prover>(
-        &mut self,
-        alloc: Global,
-        prover: &mut P,
-        just: &Growing,
-    ) -> Result<Expansion, Fault>
+    fn finish<P: Prover>(&mut self, alloc: Global, prover: &mut P, just: &Growing) -> Told
         requires ready { P.is_ready prover.old }
         requires within { is_within_depth (grown_tree just.now) ≡ true }
         ensures outcome { Finishes (P.theory prover.old) (P.store prover.old) (goal_of self.old.goal) (grown_tree just.now) (attempt_of self.old) (attempt_of self.new) result }
@@ -107,7 +105,7 @@ impl Attempt {
         alloc: Global,
         prover: &mut P,
         refinement: Step,
-    ) -> Result<Expansion, Fault>
+    ) -> Told
         requires ready { P.is_ready prover.old }
         ensures outcome { IsExpandedBy (P.theory prover.old) (P.store prover.old) (step_of refinement) (attempt_of self.old) (attempt_of self.new) result }
         ensures theory { P.theory prover.new ≡ P.theory prover.old }

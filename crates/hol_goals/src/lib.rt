@@ -13,7 +13,7 @@ mod stage;
 mod turning;
 
 pub use closing::closed;
-pub use expanding::Expansion;
+pub use expanding::{Expansion, Told};
 pub use hol_just_replay::{accept, replay};
 pub use laws::kept_theorems_stay_made;
 pub use proving::Prover;

@@ -11,7 +11,7 @@ ghost use Rattle.hol_goals.specs.Stages.{stage_of, attempt_of, stack_of};
 ghost use Rattle.hol_goals.specs.Made.{IsStageMade, IsAttemptMade};
 
 use crate::attempt::{Attempt, Change};
-use crate::expanding::Expansion;
+use crate::expanding::Told;
 use crate::proving::Prover;
 use crate::stage::{Opening, Stage};
 use hol_combine::refine_goal;
@@ -239,12 +239,7 @@ impl Stack {
     /// other goals. Where none is left, the justification is replayed, and the theorem of the goal's own term is the next stage.
     /// Refused, where nothing changes: NoGoal where no goal is open; TooLarge where the justification is deeper than the limit;
     /// where no goal is left, what the replay is refused for, InvalidStep where its theorem does not achieve the goal; Memory.
-    pub fn expand_by<P: Prover>(
-        &mut self,
-        alloc: Global,
-        prover: &mut P,
-        refinement: Step,
-    ) -> Result<Expansion, Fault>
+    pub fn expand_by<P: Prover>(&mut self, alloc: Global, prover: &mut P, refinement: Step) -> Told
         requires ready { P.is_ready prover.old }
         ensures outcome { IsExpandedBy (P.theory prover.old) (P.store prover.old) (step_of refinement) (stack_of self.old) (stack_of self.new) result }
         ensures theory { P.theory prover.new ≡ P.theory prover.old }
@@ -300,7 +295,7 @@ impl Stack {
         tac: &Tac<Term>,
         host: &H,
         fuel: &mut Fuel,
-    ) -> Result<Expansion, Fault>
+    ) -> Told
         requires ready { P.is_ready prover.old }
         requires legal { IsLegal (P.theory prover.old) }
         requires grounded { IsGrounded (P.theory prover.old) (P.store prover.old) }

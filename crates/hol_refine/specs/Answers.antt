@@ -18,6 +18,8 @@ use Rattle.hol_just.specs.declared.goal.Goal as code_goal
 use Rattle.hol_just.specs.declared.goal.Step as code_step
 use Rattle.hol_refine_table.specs.Answers.{step_in}
 use Rattle.hol_host.specs.Host.{HostRefiners, host_of}
+use Rattle.hol_theorem_library.specs.Library.{store_in}
+use Rattle.hol_theorem_library.specs.declared.library.Library.{Library}
 
 -- why names are refused, where these are their theorems
 abbrev pub IsUnnamed : Option (List Theorem) → Fault → Type 0
@@ -72,6 +74,6 @@ pub data AnswersTaut (theory : Theory) (before : Store) (goal : Goal) : Result S
 
 -- ---- what a refiner answers once its step is spent
 
-abbrev pub RefinesOn : HostRefiners → HostConversions → Theory → Store → ℕ → Leaf → code_goal.Goal → Result code_step.Step Fault → Store → ℕ → Type 0
-RefinesOn refiners conversions theory before steps l goal result after left =
-    Runs theory (host_of refiners conversions) (at before (suc steps)) (leaf l) (goal_of goal) (step_in result) (at after left)
+abbrev pub RefinesOn : HostRefiners → HostConversions → Library → ℕ → Leaf → code_goal.Goal → Result code_step.Step Fault → Library → ℕ → Type 0
+RefinesOn refiners conversions before steps l goal result after left =
+    Runs before.recorder.theory (host_of refiners conversions) (at (store_in before) (suc steps)) (leaf l) (goal_of goal) (step_in result) (at (store_in after) left)

@@ -5,7 +5,7 @@ ghost use Rattle.hol_model.specs.Goals.Replays.{IsKnownGoal};
 ghost use Rattle.hol_model.specs.Refining.Refiners as refiners;
 ghost use Rattle.hol_tactic_exprs.specs.Expressions.{conversion_of};
 ghost use Rattle.hol_just.specs.Steps.{goal_of};
-ghost use Rattle.hol_theorem_library.specs.Library.{IsLibrary, store_in};
+ghost use Rattle.hol_theorem_library.specs.Library.{IsLibrary};
 ghost use Rattle.hol_refine.specs.Growth.{IsExtended};
 ghost use Rattle.hol_refine.specs.Answers.{RefinesOn};
 
@@ -29,8 +29,7 @@ pub(crate) fn conv_tac<H: Refiners, C: Conversions>(
 ) -> Result<Step, Fault>
     requires library { IsLibrary library.old }
     requires known { IsKnownGoal library.old.recorder.theory (goal_of goal.now) }
-    ensures outcome { RefinesOn (H.refiners hosts.now) (H.conversions hosts.now) library.old.recorder.theory (store_in library.old) fuel.old.left
-        (refiners.conv_tac (conversion_of conv.now)) goal.now result (store_in library.new) fuel.new.left }
+    ensures outcome { RefinesOn (H.refiners hosts.now) (H.conversions hosts.now) library.old fuel.old.left (refiners.conv_tac (conversion_of conv.now)) goal.now result library.new fuel.new.left }
     ensures library { IsLibrary library.new }
     ensures extended { IsExtended library.old library.new }
 {
@@ -50,8 +49,8 @@ pub(crate) fn rewrite_tac<H: Refiners, C: Conversions>(
 ) -> Result<Step, Fault>
     requires library { IsLibrary library.old }
     requires known { IsKnownGoal library.old.recorder.theory (goal_of goal.now) }
-    ensures outcome { RefinesOn (H.refiners hosts.now) (H.conversions hosts.now) library.old.recorder.theory (store_in library.old) fuel.old.left
-        (refiners.rewrite_tac (map string_bytes names.now)) goal.now result (store_in library.new) fuel.new.left }
+    ensures outcome { RefinesOn (H.refiners hosts.now) (H.conversions hosts.now) library.old fuel.old.left
+        (refiners.rewrite_tac (map string_bytes names.now)) goal.now result library.new fuel.new.left }
     ensures library { IsLibrary library.new }
     ensures extended { IsExtended library.old library.new }
 {

@@ -31,8 +31,11 @@ pub(crate) enum Reduced {
     Rule(Rec),
 }
 
+// What one step comes to.
+type Reduction = Result<Reduced, Fault>;
+
 // The parts of `p /\ q`.
-fn parts(recorder: &mut Recorder, logic: &Bool, theorem: &Rec) -> Result<Reduced, Fault>
+fn parts(recorder: &mut Recorder, logic: &Bool, theorem: &Rec) -> Reduction
     requires logic { HasLogic recorder.old logic.now }
     requires made { IsMade recorder.old theorem.now }
     requires form { (p : NamedTerm) × (q : NamedTerm) × (spec.rule_form theorem.now.theorem.conclusion ≡ spec.both p q) }
@@ -46,12 +49,7 @@ fn parts(recorder: &mut Recorder, logic: &Bool, theorem: &Rec) -> Result<Reduced
 }
 
 // The body of `!x. p`.
-fn body(
-    recorder: &mut Recorder,
-    logic: &Bool,
-    hypotheses: &[Term],
-    theorem: &Rec,
-) -> Result<Reduced, Fault>
+fn body(recorder: &mut Recorder, logic: &Bool, hypotheses: &[Term], theorem: &Rec) -> Reduction
     requires logic { HasLogic recorder.old logic.now }
     requires made { IsMade recorder.old theorem.now }
     requires same { IsSameSet (map image theorem.now.theorem.hypotheses) (map image hypotheses.now) }
@@ -65,7 +63,7 @@ fn body(
 }
 
 // `a = b` itself.
-fn itself(recorder: &mut Recorder, theorem: &Rec) -> Result<Reduced, Fault>
+fn itself(recorder: &mut Recorder, theorem: &Rec) -> Reduction
     requires made { IsMade recorder.old theorem.now }
     requires form { (a : NamedTerm) × (b : NamedTerm) × (spec.rule_form theorem.now.theorem.conclusion ≡ spec.equal a b) }
     ensures goes_on { GoesOn recorder.old recorder.new }
@@ -78,12 +76,7 @@ fn itself(recorder: &mut Recorder, theorem: &Rec) -> Result<Reduced, Fault>
 }
 
 // `p <=> F`, from `~p`.
-fn falsity(
-    recorder: &mut Recorder,
-    logic: &Bool,
-    part: &Term,
-    theorem: &Rec,
-) -> Result<Reduced, Fault>
+fn falsity(recorder: &mut Recorder, logic: &Bool, part: &Term, theorem: &Rec) -> Reduction
     requires logic { HasLogic recorder.old logic.now }
     requires made { IsMade recorder.old theorem.now }
     requires form { spec.rule_form theorem.now.theorem.conclusion ≡ spec.denied part.now }
@@ -96,7 +89,7 @@ fn falsity(
 }
 
 // `p <=> T`, from `p`.
-fn truth(recorder: &mut Recorder, logic: &Bool, theorem: &Rec) -> Result<Reduced, Fault>
+fn truth(recorder: &mut Recorder, logic: &Bool, theorem: &Rec) -> Reduction
     requires logic { HasLogic recorder.old logic.now }
     requires made { IsMade recorder.old theorem.now }
     requires form { (p : NamedTerm) × (spec.rule_form theorem.now.theorem.conclusion ≡ spec.stated p) }

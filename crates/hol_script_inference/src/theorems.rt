@@ -51,13 +51,11 @@ pub fn thm<H: Refiners>(
     }
 }
 
+// The theorem that `thm` asks for.
+type Made = Result<Rec, Refused>;
+
 // What `thm` asks for. The state stays; where it is refused, what was recorded for it is not kept.
-fn theorem<H: Refiners>(
-    session: &mut Session,
-    alloc: Global,
-    hosts: &H,
-    asked: &Asked,
-) -> Result<Rec, Refused>
+fn theorem<H: Refiners>(session: &mut Session, alloc: Global, hosts: &H, asked: &Asked) -> Made
     requires { IsSession session.old }
     ensures answers { (tree : TheoremTree) → IsAsked asked.now tree
         → AnswersTheorem (session_tools (H.refiners hosts.now) (H.conversions hosts.now)) (lemmas_of session.old) (theorem_given result) (state_of session.old) tree }
@@ -74,12 +72,7 @@ fn theorem<H: Refiners>(
 }
 
 // What `thm` asks for. The state stays.
-fn inferred<H: Refiners>(
-    session: &mut Session,
-    alloc: Global,
-    hosts: &H,
-    asked: &Asked,
-) -> Result<Rec, Refused>
+fn inferred<H: Refiners>(session: &mut Session, alloc: Global, hosts: &H, asked: &Asked) -> Made
     requires { IsSession session.old }
     ensures answers { (tree : TheoremTree) → IsAsked asked.now tree
         → AnswersTheorem (session_tools (H.refiners hosts.now) (H.conversions hosts.now)) (lemmas_of session.old) (theorem_given result) (state_of session.old) tree }

@@ -18,7 +18,7 @@ impl Conversions for ByExpression {
     fn apply<H: Converters>(
         &self,
         library: &mut Library,
-        alloc: Global,
+        _alloc: Global,
         hosts: &H,
         conv: &Conv,
         t: &Term,
@@ -30,7 +30,7 @@ impl Conversions for ByExpression {
     fn rewrite<H: Converters>(
         &self,
         library: &mut Library,
-        alloc: Global,
+        _alloc: Global,
         hosts: &H,
         rules: &[Rec],
         t: &Term,

@@ -34,7 +34,7 @@ impl Leaves for Prover {
 
     fn refine<H: Refiners>(
         &mut self,
-        alloc: Global,
+        _alloc: Global,
         leaf: &Leaf<Term>,
         goal: &Goal,
         host: &H,
@@ -50,7 +50,7 @@ impl Leaves for Prover {
         )
     }
 
-    fn accept(&mut self, alloc: Global, goal: &Goal, step: &Step) -> Result<(), Fault> {
+    fn accept(&mut self, _alloc: Global, goal: &Goal, step: &Step) -> Result<(), Fault> {
         let library = &mut self.session.library;
         accept(
             &mut library.recorder,
@@ -71,7 +71,7 @@ impl hol_goals::Prover for Prover {
 
     ghost journal = { λ prover. prover.session.library.recorder };
 
-    fn prove(&mut self, alloc: Global, goal: &Goal, just: &Just) -> Result<Rec, Fault> {
+    fn prove(&mut self, _alloc: Global, goal: &Goal, just: &Just) -> Result<Rec, Fault> {
         prove(&mut self.session.library, goal, just)
     }
 

@@ -86,34 +86,42 @@ pub fn name_copies(alloc: Global, names: &[String]) -> Result<Vec<String>, Fault
     Ok(copies)
 }
 
+/// The refiner of the same kind, with the same names and conversion, and a quoted term that is made of the other's.
+#[macro_export]
+macro_rules! leaf_like {
+    ($alloc:expr, $leaf:expr, $quote:ident => $made:expr) => {
+        match $leaf {
+            $crate::Leaf::All => Ok($crate::Leaf::All),
+            $crate::Leaf::No => Ok($crate::Leaf::No),
+            $crate::Leaf::Accept(name) => Ok($crate::Leaf::Accept(name.clone()?)),
+            $crate::Leaf::Assumption => Ok($crate::Leaf::Assumption),
+            $crate::Leaf::Assume(name) => Ok($crate::Leaf::Assume(name.clone()?)),
+            $crate::Leaf::Refl => Ok($crate::Leaf::Refl),
+            $crate::Leaf::Conj => Ok($crate::Leaf::Conj),
+            $crate::Leaf::Eq => Ok($crate::Leaf::Eq),
+            $crate::Leaf::Disj1 => Ok($crate::Leaf::Disj1),
+            $crate::Leaf::Disj2 => Ok($crate::Leaf::Disj2),
+            $crate::Leaf::Disch => Ok($crate::Leaf::Disch),
+            $crate::Leaf::Gen => Ok($crate::Leaf::Gen),
+            $crate::Leaf::Exists($quote) => Ok($crate::Leaf::Exists($made)),
+            $crate::Leaf::Mp(name) => Ok($crate::Leaf::Mp(name.clone()?)),
+            $crate::Leaf::DisjCases(name) => Ok($crate::Leaf::DisjCases(name.clone()?)),
+            $crate::Leaf::Choose(name) => Ok($crate::Leaf::Choose(name.clone()?)),
+            $crate::Leaf::Undisch($quote) => Ok($crate::Leaf::Undisch($made)),
+            $crate::Leaf::Conv(conv) => Ok($crate::Leaf::Conv(conv.copy($alloc)?)),
+            $crate::Leaf::Rewrite(names) => Ok($crate::Leaf::Rewrite($crate::name_copies($alloc, names)?)),
+            $crate::Leaf::Taut => Ok($crate::Leaf::Taut),
+        }
+    };
+}
+
 impl Leaf<Term> {
     /// The same refiner. Refused: Memory.
     pub fn copy(&self, alloc: Global) -> Result<Leaf<Term>, Fault>
         ensures ok { IfOk result (λ made. leaf_of made ≡ leaf_of self.now) }
         ensures err { IfErr result (λ fault. fault ≡ Memory) }
     {
-        match self {
-            Leaf::All => Ok(Leaf::All),
-            Leaf::No => Ok(Leaf::No),
-            Leaf::Accept(name) => Ok(Leaf::Accept(name.clone()?)),
-            Leaf::Assumption => Ok(Leaf::Assumption),
-            Leaf::Assume(name) => Ok(Leaf::Assume(name.clone()?)),
-            Leaf::Refl => Ok(Leaf::Refl),
-            Leaf::Conj => Ok(Leaf::Conj),
-            Leaf::Eq => Ok(Leaf::Eq),
-            Leaf::Disj1 => Ok(Leaf::Disj1),
-            Leaf::Disj2 => Ok(Leaf::Disj2),
-            Leaf::Disch => Ok(Leaf::Disch),
-            Leaf::Gen => Ok(Leaf::Gen),
-            Leaf::Exists(witness) => Ok(Leaf::Exists(witness.copy(alloc)?)),
-            Leaf::Mp(name) => Ok(Leaf::Mp(name.clone()?)),
-            Leaf::DisjCases(name) => Ok(Leaf::DisjCases(name.clone()?)),
-            Leaf::Choose(name) => Ok(Leaf::Choose(name.clone()?)),
-            Leaf::Undisch(assumption) => Ok(Leaf::Undisch(assumption.copy(alloc)?)),
-            Leaf::Conv(conv) => Ok(Leaf::Conv(conv.copy(alloc)?)),
-            Leaf::Rewrite(names) => Ok(Leaf::Rewrite(name_copies(alloc, names)?)),
-            Leaf::Taut => Ok(Leaf::Taut),
-        }
+        leaf_like!(alloc, self, quote => quote.copy(alloc)?)
     }
 }
 

@@ -9,6 +9,9 @@ use hol_journal::{Inference, Rec, Recorder};
 use hol_model::Fault;
 use hol_terms::Term;
 
+/// The theorem of a step.
+pub(crate) type Made = Result<Rec, Fault>;
+
 /// REFL.
 pub fn reflexive(recorder: &mut Recorder, term: &Term) -> Result<Rec, Fault>
     ensures continues { Continues recorder.old recorder.new result }
@@ -17,7 +20,7 @@ pub fn reflexive(recorder: &mut Recorder, term: &Term) -> Result<Rec, Fault>
 }
 
 /// MK_COMB.
-pub(crate) fn applied(recorder: &mut Recorder, first: &Rec, second: &Rec) -> Result<Rec, Fault>
+pub(crate) fn applied(recorder: &mut Recorder, first: &Rec, second: &Rec) -> Made
     requires first { IsMade recorder.old first.now }
     requires second { IsMade recorder.old second.now }
     ensures continues { Continues recorder.old recorder.new result }
@@ -34,7 +37,7 @@ pub fn instance(recorder: &mut Recorder, terms: &[(Term, Term)], law: &Rec) -> R
 }
 
 /// AP_TERM.
-pub(crate) fn under(recorder: &mut Recorder, function: &Term, premise: &Rec) -> Result<Rec, Fault>
+pub(crate) fn under(recorder: &mut Recorder, function: &Term, premise: &Rec) -> Made
     requires { IsMade recorder.old premise.now }
     ensures continues { Continues recorder.old recorder.new result }
 {
@@ -43,7 +46,7 @@ pub(crate) fn under(recorder: &mut Recorder, function: &Term, premise: &Rec) -> 
 }
 
 /// From `p <=> q`, `(left <=> p) <=> (left <=> q)`.
-pub(crate) fn beside(recorder: &mut Recorder, left: &Term, premise: &Rec) -> Result<Rec, Fault>
+pub(crate) fn beside(recorder: &mut Recorder, left: &Term, premise: &Rec) -> Made
     requires { IsMade recorder.old premise.now }
     ensures continues { Continues recorder.old recorder.new result }
 {
@@ -53,11 +56,7 @@ pub(crate) fn beside(recorder: &mut Recorder, left: &Term, premise: &Rec) -> Res
 }
 
 /// TRANS, where the second theorem was made.
-pub(crate) fn followed(
-    recorder: &mut Recorder,
-    first: Rec,
-    second: Result<Rec, Fault>,
-) -> Result<Rec, Fault>
+pub(crate) fn followed(recorder: &mut Recorder, first: Rec, second: Made) -> Made
     requires first { IsMade recorder.old first }
     requires second { IfOk second (IsHeld recorder.old) }
     ensures continues { Continues recorder.old recorder.new result }

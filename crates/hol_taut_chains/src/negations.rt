@@ -4,7 +4,7 @@ ghost use Rattle.hol_journal.specs.Journal.{IsMade};
 ghost use Rattle.hol_journal.specs.Growth.{Continues, IsHeld};
 ghost use Rattle.hol_taut_chains.specs.Negations.{HasNegationLaws};
 
-use crate::chain_steps::{followed, reflexive};
+use crate::chain_steps::{Made, followed, reflexive};
 use crate::chains::sides_of;
 use crate::parts::{beneath, joined};
 use crate::pulled::law_at;
@@ -82,7 +82,7 @@ fn right_of(equation: &Term) -> Option<&Term> {
 
 // From `formula <=> other`, an equation with what a law makes of the other; one to which no law applies stays.
 #[tactic(auto, using(hol_equal::proofs::StepLemmas::still_made, crate::proofs::ChainLemmas::continued_twice))]
-fn rewritten(recorder: &mut Recorder, laws: &NegationLaws, equation: Rec) -> Result<Rec, Fault>
+fn rewritten(recorder: &mut Recorder, laws: &NegationLaws, equation: Rec) -> Made
     requires laws { HasNegationLaws recorder.old laws.now }
     requires equation { IsHeld recorder.old equation }
     ensures continues { Continues recorder.old recorder.new result }
@@ -105,11 +105,7 @@ fn negated_behind(equation: &Term) -> Option<(&Term, &Term)> {
 
 // The same of `formula <=> ~other`, beneath the negation.
 #[tactic(auto, using(hol_equal::proofs::StepLemmas::still_made, crate::proofs::ChainLemmas::continued_twice))]
-fn rewritten_beneath(
-    recorder: &mut Recorder,
-    laws: &NegationLaws,
-    equation: Rec,
-) -> Result<Rec, Fault>
+fn rewritten_beneath(recorder: &mut Recorder, laws: &NegationLaws, equation: Rec) -> Made
     requires laws { HasNegationLaws recorder.old laws.now }
     requires equation { IsHeld recorder.old equation }
     ensures continues { Continues recorder.old recorder.new result }
@@ -127,7 +123,7 @@ fn rewritten_beneath(
 
 // From `formula <=> other`, where at most the sides of the other are negated, and once, an equation where none is.
 #[tactic(auto, using(crate::proofs::ChainLemmas::continued_twice))]
-fn pulled_out(recorder: &mut Recorder, laws: &NegationLaws, equation: Rec) -> Result<Rec, Fault>
+fn pulled_out(recorder: &mut Recorder, laws: &NegationLaws, equation: Rec) -> Made
     requires laws { HasNegationLaws recorder.old laws.now }
     requires equation { IsHeld recorder.old equation }
     ensures continues { Continues recorder.old recorder.new result }
@@ -144,8 +140,8 @@ fn connected(
     laws: &NegationLaws,
     term: &Term,
     left: &Rec,
-    right: Result<Rec, Fault>,
-) -> Result<Rec, Fault>
+    right: Made,
+) -> Made
     requires laws { HasNegationLaws recorder.old laws.now }
     requires left { IsMade recorder.old left.now }
     requires right { IfOk right (IsHeld recorder.old) }
@@ -159,12 +155,7 @@ fn connected(
 
 // The equation of a negation, from that of what is negated.
 #[tactic(auto, using(crate::proofs::ChainLemmas::continued_twice))]
-fn denied(
-    recorder: &mut Recorder,
-    laws: &NegationLaws,
-    term: &Term,
-    part: Result<Rec, Fault>,
-) -> Result<Rec, Fault>
+fn denied(recorder: &mut Recorder, laws: &NegationLaws, term: &Term, part: Made) -> Made
     requires laws { HasNegationLaws recorder.old laws.now }
     requires part { IfOk part (IsHeld recorder.old) }
     ensures continues { Continues recorder.old recorder.new result }

@@ -3,7 +3,7 @@ ghost use Rattle.hol_journal.specs.Journal.{IsMade};
 ghost use Rattle.hol_journal.specs.Growth.{Continues};
 ghost use Rattle.hol_taut_chains.specs.Chains.{HasChainLaws};
 
-use crate::chain_steps::followed;
+use crate::chain_steps::{Made, followed};
 use crate::chains::{sides_of, twofold};
 use crate::pulled::{ChainLaws, carried, front_and_rest, pulled};
 use hol_alpha::aconv;
@@ -13,7 +13,7 @@ use hol_model::Fault;
 use hol_terms::Term;
 
 // From `chain <=> part <=> rest`, `rest <=> part <=> shorter`.
-fn pulled_again(recorder: &mut Recorder, laws: &ChainLaws, first: &Rec) -> Result<Rec, Fault>
+fn pulled_again(recorder: &mut Recorder, laws: &ChainLaws, first: &Rec) -> Made
     requires laws { HasChainLaws recorder.old laws.now }
     requires first { IsMade recorder.old first.now }
     ensures continues { Continues recorder.old recorder.new result }
@@ -26,12 +26,7 @@ fn pulled_again(recorder: &mut Recorder, laws: &ChainLaws, first: &Rec) -> Resul
 
 // `chain <=> shorter`, where the part stands at two places of the chain.
 #[tactic(auto, using(crate::proofs::ChainLemmas::in_a_row))]
-fn without_pair(
-    recorder: &mut Recorder,
-    laws: &ChainLaws,
-    part: &Term,
-    chain: &Term,
-) -> Result<Rec, Fault>
+fn without_pair(recorder: &mut Recorder, laws: &ChainLaws, part: &Term, chain: &Term) -> Made
     requires laws { HasChainLaws recorder.old laws.now }
     ensures continues { Continues recorder.old recorder.new result }
 {
@@ -73,7 +68,7 @@ pub(crate) fn without_pairs(
     part: &Term,
     chain: &Term,
     more: usize,
-) -> Result<Rec, Fault>
+) -> Made
     requires laws { HasChainLaws recorder.old laws.now }
     ensures continues { Continues recorder.old recorder.new result }
 {

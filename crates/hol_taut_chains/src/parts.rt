@@ -5,7 +5,7 @@ ghost use Rattle.hol_journal.specs.Journal.{IsMade};
 ghost use Rattle.hol_journal.specs.Growth.{Continues, IsHeld};
 ghost use Rattle.hol_taut_chains.specs.Chains.{HasChainLaws};
 
-use crate::chain_steps::{applied, followed, reflexive, under};
+use crate::chain_steps::{Made, applied, followed, reflexive, under};
 use crate::chains::{has_chain, is_chain, sides_of};
 use crate::pairs::same_side;
 use crate::pulled::ChainLaws;
@@ -57,7 +57,7 @@ fn connective_of(term: &Term) -> Option<&Term> {
 
 // The equation of a connective's formula, from those of its sides.
 #[tactic(auto, using(hol_equal::proofs::StepLemmas::still_made, hol_equal::proofs::StepLemmas::now_made, crate::proofs::ChainLemmas::continued_twice))]
-fn joined_sides(recorder: &mut Recorder, term: &Term, left: &Rec, right: &Rec) -> Result<Rec, Fault>
+fn joined_sides(recorder: &mut Recorder, term: &Term, left: &Rec, right: &Rec) -> Made
     requires left { IsMade recorder.old left.now }
     requires right { IsMade recorder.old right.now }
     ensures continues { Continues recorder.old recorder.new result }
@@ -70,12 +70,7 @@ fn joined_sides(recorder: &mut Recorder, term: &Term, left: &Rec, right: &Rec) -
 }
 
 /// The same, where that of the right side was made.
-pub(crate) fn joined(
-    recorder: &mut Recorder,
-    term: &Term,
-    left: &Rec,
-    right: Result<Rec, Fault>,
-) -> Result<Rec, Fault>
+pub(crate) fn joined(recorder: &mut Recorder, term: &Term, left: &Rec, right: Made) -> Made
     requires left { IsMade recorder.old left.now }
     requires right { IfOk right (IsHeld recorder.old) }
     ensures continues { Continues recorder.old recorder.new result }
@@ -85,11 +80,7 @@ pub(crate) fn joined(
 }
 
 /// The equation of a connective's formula, from that of its last part.
-pub(crate) fn beneath(
-    recorder: &mut Recorder,
-    term: &Term,
-    part: Result<Rec, Fault>,
-) -> Result<Rec, Fault>
+pub(crate) fn beneath(recorder: &mut Recorder, term: &Term, part: Made) -> Made
     requires part { IfOk part (IsHeld recorder.old) }
     ensures continues { Continues recorder.old recorder.new result }
 {
@@ -108,7 +99,7 @@ fn same_side_behind(equation: &Term) -> Option<&Term> {
 
 // `(p <=> p) <=> T`.
 #[tactic(auto, using(hol_equal::proofs::StepLemmas::still_made, hol_equal::proofs::StepLemmas::now_made, crate::proofs::ChainLemmas::continued_twice))]
-fn truth_of(recorder: &mut Recorder, truth: &Rec, side: &Term) -> Result<Rec, Fault>
+fn truth_of(recorder: &mut Recorder, truth: &Rec, side: &Term) -> Made
     requires { IsMade recorder.old truth.now }
     ensures continues { Continues recorder.old recorder.new result }
 {
@@ -118,7 +109,7 @@ fn truth_of(recorder: &mut Recorder, truth: &Rec, side: &Term) -> Result<Rec, Fa
 
 // From `chain <=> p <=> p`, `chain <=> T`; what else a chain is equal to stays.
 #[tactic(auto, using(hol_equal::proofs::StepLemmas::still_made, hol_equal::proofs::StepLemmas::now_made, crate::proofs::ChainLemmas::continued_twice))]
-fn with_truth(recorder: &mut Recorder, truth: &Rec, normal: Rec) -> Result<Rec, Fault>
+fn with_truth(recorder: &mut Recorder, truth: &Rec, normal: Rec) -> Made
     requires truth { IsMade recorder.old truth.now }
     requires normal { IsHeld recorder.old normal }
     ensures continues { Continues recorder.old recorder.new result }
@@ -132,12 +123,7 @@ fn with_truth(recorder: &mut Recorder, truth: &Rec, normal: Rec) -> Result<Rec, 
 
 // `chain <=> normal`, or `chain <=> T`.
 #[tactic(auto, using(hol_equal::proofs::StepLemmas::still_made, crate::proofs::ChainLemmas::continued_twice))]
-fn chain_equation(
-    recorder: &mut Recorder,
-    laws: &ChainLaws,
-    whole: &Term,
-    chain: &Term,
-) -> Result<Rec, Fault>
+fn chain_equation(recorder: &mut Recorder, laws: &ChainLaws, whole: &Term, chain: &Term) -> Made
     requires { HasChainLaws recorder.old laws.now }
     ensures continues { Continues recorder.old recorder.new result }
 {

@@ -3,7 +3,7 @@ ghost use Rattle.hol_journal.specs.Journal.{IsMade};
 ghost use Rattle.hol_journal.specs.Growth.{Continues};
 ghost use Rattle.hol_taut_chains.specs.Chains.{HasChainLaws};
 
-use crate::chain_steps::{beside, followed, instance, reflexive};
+use crate::chain_steps::{Made, beside, followed, instance, reflexive};
 use crate::chains::{is_part, sides_of};
 use crate::formula_terms::for_p_q_r;
 use hol_alpha::aconv;
@@ -26,13 +26,7 @@ pub struct ChainLaws {
 }
 
 /// A law at three formulas.
-pub(crate) fn law_at(
-    recorder: &mut Recorder,
-    law: &Rec,
-    p: &Term,
-    q: &Term,
-    r: &Term,
-) -> Result<Rec, Fault>
+pub(crate) fn law_at(recorder: &mut Recorder, law: &Rec, p: &Term, q: &Term, r: &Term) -> Made
     requires { IsMade recorder.old law.now }
     ensures continues { Continues recorder.old recorder.new result }
 {
@@ -50,7 +44,7 @@ pub(crate) fn front_and_rest(equivalence: &Term) -> Option<(&Term, &Term)> {
 }
 
 // From `right <=> part <=> rest`, a law at `left`, `part` and `rest`.
-fn law_behind(recorder: &mut Recorder, law: &Rec, left: &Term, inner: &Rec) -> Result<Rec, Fault>
+fn law_behind(recorder: &mut Recorder, law: &Rec, left: &Term, inner: &Rec) -> Made
     requires law { IsMade recorder.old law.now }
     requires inner { IsMade recorder.old inner.now }
     ensures continues { Continues recorder.old recorder.new result }
@@ -63,12 +57,7 @@ fn law_behind(recorder: &mut Recorder, law: &Rec, left: &Term, inner: &Rec) -> R
 
 /// From `right <=> part <=> rest`, `(left <=> right) <=> other` by a law of `left <=> part <=> rest`.
 #[tactic(auto, using(crate::proofs::ChainLemmas::in_a_row))]
-pub(crate) fn carried(
-    recorder: &mut Recorder,
-    law: &Rec,
-    left: &Term,
-    inner: &Rec,
-) -> Result<Rec, Fault>
+pub(crate) fn carried(recorder: &mut Recorder, law: &Rec, left: &Term, inner: &Rec) -> Made
     requires law { IsMade recorder.old law.now }
     requires inner { IsMade recorder.old inner.now }
     ensures continues { Continues recorder.old recorder.new result }
@@ -80,13 +69,7 @@ pub(crate) fn carried(
 
 // From `left <=> part <=> rest`, `(left <=> right) <=> (part <=> right <=> rest)`.
 #[tactic(auto, using(crate::proofs::ChainLemmas::in_a_row))]
-fn turned(
-    recorder: &mut Recorder,
-    laws: &ChainLaws,
-    left: &Term,
-    right: &Term,
-    inner: &Rec,
-) -> Result<Rec, Fault>
+fn turned(recorder: &mut Recorder, laws: &ChainLaws, left: &Term, right: &Term, inner: &Rec) -> Made
     requires laws { HasChainLaws recorder.old laws.now }
     requires inner { IsMade recorder.old inner.now }
     ensures continues { Continues recorder.old recorder.new result }
@@ -98,12 +81,7 @@ fn turned(
 
 /// `chain <=> part <=> rest`, for a part of the chain.
 #[tactic(auto, using(crate::proofs::ChainLemmas::in_a_row))]
-pub(crate) fn pulled(
-    recorder: &mut Recorder,
-    laws: &ChainLaws,
-    part: &Term,
-    chain: &Term,
-) -> Result<Rec, Fault>
+pub(crate) fn pulled(recorder: &mut Recorder, laws: &ChainLaws, part: &Term, chain: &Term) -> Made
     requires laws { HasChainLaws recorder.old laws.now }
     ensures continues { Continues recorder.old recorder.new result }
 {

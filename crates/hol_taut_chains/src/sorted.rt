@@ -3,7 +3,7 @@ ghost use Rattle.hol_journal.specs.Journal.{IsMade};
 ghost use Rattle.hol_journal.specs.Growth.{Continues};
 ghost use Rattle.hol_taut_chains.specs.Chains.{HasChainLaws};
 
-use crate::chain_steps::{beside, reflexive};
+use crate::chain_steps::{Made, beside, reflexive};
 use crate::chains::{first_part, is_sorted, sides_of, twofold};
 use crate::pairs::{same_side, without_pairs};
 use crate::pulled::{ChainLaws, front_and_rest, pulled};
@@ -17,7 +17,7 @@ const MOST_PARTS: usize = 128;
 
 // From `chain <=> part <=> rest` and `rest <=> sorted`, `chain <=> part <=> sorted`.
 #[tactic(auto, using(hol_equal::proofs::StepLemmas::still_made, hol_equal::proofs::StepLemmas::now_made, crate::proofs::ChainLemmas::continued_twice))]
-fn with_sorted(recorder: &mut Recorder, part: &Term, first: &Rec, inner: &Rec) -> Result<Rec, Fault>
+fn with_sorted(recorder: &mut Recorder, part: &Term, first: &Rec, inner: &Rec) -> Made
     requires first { IsMade recorder.old first.now }
     requires inner { IsMade recorder.old inner.now }
     ensures continues { Continues recorder.old recorder.new result }
@@ -39,7 +39,7 @@ fn sorted(
     whole: &Term,
     chain: &Term,
     most: usize,
-) -> Result<Rec, Fault>
+) -> Made
     requires laws { HasChainLaws recorder.old laws.now }
     ensures continues { Continues recorder.old recorder.new result }
 {
@@ -62,12 +62,7 @@ fn sorted(
 
 // From `chain <=> shortest`, `chain <=> sorted`.
 #[tactic(auto, using(crate::proofs::ChainLemmas::in_a_row))]
-fn sorted_behind(
-    recorder: &mut Recorder,
-    laws: &ChainLaws,
-    whole: &Term,
-    shortest: &Rec,
-) -> Result<Rec, Fault>
+fn sorted_behind(recorder: &mut Recorder, laws: &ChainLaws, whole: &Term, shortest: &Rec) -> Made
     requires laws { HasChainLaws recorder.old laws.now }
     requires shortest { IsMade recorder.old shortest.now }
     ensures continues { Continues recorder.old recorder.new result }
@@ -86,7 +81,7 @@ pub(crate) fn normal_chain(
     laws: &ChainLaws,
     whole: &Term,
     chain: &Term,
-) -> Result<Rec, Fault>
+) -> Made
     requires laws { HasChainLaws recorder.old laws.now }
     ensures continues { Continues recorder.old recorder.new result }
 {

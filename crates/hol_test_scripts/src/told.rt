@@ -1,5 +1,5 @@
 // What is told of a script: messages, notes, and records of its commands.
-use hol_explain::{Origin, Refused, Script, explain, explain_refusal, write_records};
+use hol_explain::{Origin, Refused, Script, Walk, explain, explain_refusal};
 use hol_model::Fault;
 use hol_test_sample_devices::Kept;
 use hol_test_sample_host::SAMPLES;
@@ -50,7 +50,9 @@ pub(crate) fn messages(
         host_names: &names,
     };
     let mut writer = Kept::new(alloc);
-    explain(alloc, &script, &SAMPLES, &mut writer)?;
+    let host = SAMPLES;
+    let walk = Walk::new(alloc, &script, &host);
+    explain(&walk, &mut writer)?;
     Ok(writer.bytes)
 }
 
@@ -62,7 +64,9 @@ pub(crate) fn message_without_memory(alloc: Global, text: &[u8]) -> Result<Vec<u
         host_names: &[],
     };
     let refused = Refused::plain(Fault::Memory);
-    let message = explain_refusal(alloc, &script, &SAMPLES, &refused)?;
+    let host = SAMPLES;
+    let walk = Walk::new(alloc, &script, &host);
+    let message = explain_refusal(&walk, &refused)?;
     let mut told = Vec::new(alloc);
     told.extend_from_slice(message.as_bytes())?;
     Ok(told)
@@ -77,7 +81,9 @@ pub(crate) fn records(alloc: Global, text: &[u8]) -> Result<Vec<u8>, Fault> {
         host_names: &names,
     };
     let mut writer = Kept::new(alloc);
-    write_records(alloc, &script, &SAMPLES, &mut writer)?;
+    let host = SAMPLES;
+    let walk = Walk::of_records(alloc, &script, &host);
+    explain(&walk, &mut writer)?;
     Ok(writer.bytes)
 }
 

@@ -5,7 +5,7 @@ ghost use Rattle.std.specs.Prelude.{◌≡◌, ◌≤◌, length, false, IfSome}
 use crate::feed::Feed;
 use crate::scripts::tell_unended;
 use hol_device_adapters::IntoCall;
-use hol_explain::{Follower, Script};
+use hol_explain::{Follower, Script, Walk};
 use hol_host::Refiners;
 use hol_model::{DeviceFail, Source};
 use hol_script_commands::cut::{is_blank_text, leading_line_feeds, line_feeds};
@@ -98,7 +98,8 @@ impl<'a, 'b, 'c, H: Refiners> Console<'a, 'b, 'c, H> {
             return;
         };
         if let Some(follower) = &mut self.follower {
-            let followed = follower.follow(alloc, &script, self.host, &mut IntoCall::new(writes));
+            let walk = Walk::new(alloc, &script, self.host);
+            let followed = follower.follow(&walk, &mut IntoCall::new(writes));
             if followed.is_err() {
                 drop(self.follower.take());
             }
@@ -117,7 +118,8 @@ impl<'a, 'b, 'c, H: Refiners> Console<'a, 'b, 'c, H> {
         let mut output = self.rt.stderr();
         if let Ok(writes) = Box::new(alloc, move |piece: &[u8]| output.write(piece)) {
             if let Some(follower) = &self.follower {
-                let _ = follower.end(alloc, &script, self.host, &mut IntoCall::new(writes));
+                let walk = Walk::new(alloc, &script, self.host);
+                let _ = follower.end(&walk, &mut IntoCall::new(writes));
             }
         }
     }

@@ -7,7 +7,7 @@ use crate::options::Options;
 use crate::output::Output;
 use crate::scripts::{Scripts, open_scripts, read_scripts};
 use hol_device_adapters::{FromRead, IntoCall, IntoWrite};
-use hol_explain::{Ended, Script, explain, run, write_records};
+use hol_explain::{Ended, Script, Walk, explain, run};
 use hol_model::{Fault, Sink};
 use holp_goals::View;
 use std::cell::RefCell;
@@ -31,7 +31,9 @@ fn explain_run(rt: &HostRuntime, script: &Script<'_>, refused: u64) {
     let Ok(writes) = Box::new(alloc, move |piece: &[u8]| output.write(piece)) else {
         return;
     };
-    match explain(alloc, script, &host(), &mut IntoCall::new(writes)) {
+    let functions = host();
+    let walk = Walk::new(alloc, script, &functions);
+    match explain(&walk, &mut IntoCall::new(writes)) {
         Ok(count) if count != refused => {
             let _ = eprintln!(rt;
                 "note: the run refused {refused} commands, and {count} when it was done again to be explained: a function of the host answers otherwise each time"
@@ -63,11 +65,13 @@ fn run_with<W: Sink, L: Sink>(
     requires log_unfailed { L.has_failed log.old ≡ false }
 {
     let alloc = rt.alloc();
+    let functions = host();
     if options.tells_records {
-        return write_records(alloc, script, &host(), writer);
+        let walk = Walk::of_records(alloc, script, &functions);
+        return explain(&walk, writer);
     }
     let mut reader = FromRead::new(script.text);
-    let ended = run(alloc, &mut reader, writer, log, wants_log, &host())?;
+    let ended = run(alloc, &mut reader, writer, log, wants_log, &functions)?;
     if !options.explains {
         return refused_in(ended);
     }
