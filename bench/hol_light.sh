@@ -1,7 +1,7 @@
 #!/bin/sh
 # Builds HOL Light with the peers of the benchmark's works as one native program: `hol_light.sh OUT`.
 # It takes the sources of Debian's package hol-light (up to class.ml) and wants camlp5, ocaml and libnum-ocaml-dev. Call it as
-#     OUT WORK SIZE.. [--print]
+#     OUT WORK SIZE.. [--same < SCRIPT | --print]
 # It does one work, and writes the seconds of the processor that the work took behind the start, at the end of standard error.
 set -e
 if [ $# -ne 1 ]; then

@@ -154,16 +154,19 @@ def row(work, size, options, room, start, is_compared):
     except Failed as failed:
         seconds, cells = None, [str(failed), ""]
     has_failed = False
-    for extra in [[], ["--print"]]:
+    for extra, has_ratio in [(["--same"], True), (["--print"], True), ([], False)]:
+        ratio = [""] if has_ratio else []
         if peer is None or options.hol_light is None or not is_compared or has_failed:
-            cells += ["", ""]
+            cells += [""] + ratio
             continue
         try:
             other = peers(options.hol_light, peer.format(size).split() + extra, script, room, options.runs)
-            cells += [told(other), f"{seconds / other:.2f}" if seconds is not None and other > 0.0005 else ""]
+            if has_ratio and seconds is not None and other > 0.0005:
+                ratio = [f"{seconds / other:.2f}"]
+            cells += [told(other)] + ratio
         except Failed as failed:
             has_failed = True
-            cells += [str(failed), ""]
+            cells += [str(failed)] + ratio
     return cells, seconds
 
 
@@ -178,8 +181,8 @@ def tables(options):
     load = f"{os.getloadavg()[0] / os.cpu_count():.1f}"
     yield f"{datetime.date.today()}, {machine()}, sources at {commit}; up to {options.runs} runs of at most {LIMIT} s, beside a load of {load} for each processor."
     yield ""
-    yield "| work | `holp`, s | half | peak, MB | HOL Light, s | ratio | it prints, s | ratio |"
-    yield "|---|---|---|---|---|---|---|---|"
+    yield "| work | `holp`, s | half | peak, MB | the same, s | ratio | its printer, s | ratio | rules, s |"
+    yield "|---|---|---|---|---|---|---|---|---|"
     with tempfile.TemporaryDirectory() as folder:
         room = pathlib.Path(folder)
         empty = room / "empty"
@@ -188,7 +191,7 @@ def tables(options):
         other = ""
         if options.hol_light is not None:
             other = told(least([options.hol_light, "empty"], empty, room, lambda seconds, _status, _errors: seconds, options.runs)[0])
-        yield f"| the start, which no other row counts | {told(start)} | | {peak:.0f} | {other} | | | |"
+        yield f"| the start, which no other row counts | {told(start)} | | {peak:.0f} | {other} | | | | |"
         for work in WORKS:
             title, generator, size, half, _, _ = work
             if options.only is not None and options.only not in title + generator:
