@@ -1,4 +1,5 @@
-use Rattle.std.proofs.Common.{refl, inl, subst, Ok, Err}
+use Rattle.std.proofs.Common.{refl, inl, subst, Result, Ok, Err}
+use Rattle.hol_model.specs.declared.fault.Fault.{Fault}
 use Rattle.hol_model.specs.Logic.Theory.{Theory}
 use Rattle.hol_model.specs.Kernel.Theorem.{Theorem}
 use Rattle.hol_model.specs.Goals.Replays.{IsReplay}
@@ -39,7 +40,8 @@ returns-in_err-theorem-clause-answer c extra shows =
     let subgoals = c.in_ok-subgoals.subgoals.items in
     let fault = c.in_err-theorem.field-0.0 in
     let expected = expected_in theory stored subgoals step.justification in
-    let answer = subst (λ (th : Theory). IsReplay th (theorems_in stored) (sequents_of subgoals) step.justification (Err {T = Theorem} fault))
+    let refused : Result Theorem Fault = Err fault in
+    let answer = subst (λ (th : Theory). IsReplay th (theorems_in stored) (sequents_of subgoals) step.justification refused)
     c.suppose_all.ensures.theory (rw c.deref-2.ensures.value at c.in_err-theorem.ensures.answer) in
     rw (passed_on c.from_residual-in_err-theorem.result fault c.from_residual-in_err-theorem.ensures.1) (
     unreplayed theory (named_sequents stored) extra (goal_of c.args.goal.now) step fault
