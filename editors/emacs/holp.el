@@ -36,11 +36,6 @@
 
 (defconst holp-commands '("thm" "show" "save" "var" "def" "newtype" "newconst" "goal" "e" "b" "p" "r"))
 
-(defconst holp-rules
-  '("REFL" "ASSUME" "BETA" "BETA_CONV" "TAUT" "ABS" "ADD_ASSUM" "DISCH" "SPEC" "GEN" "DISJ1" "DISJ2" "CONTR" "EXISTS" "CHOOSE"
-    "SYM" "EQT_INTRO" "EQT_ELIM" "CONJUNCT1" "CONJUNCT2" "UNDISCH" "NOT_INTRO" "NOT_ELIM" "TRANS" "MK_COMB" "EQ_MP"
-    "DEDUCT_ANTISYM_RULE" "PROVE_HYP" "CONJ" "MP" "DISJ_CASES" "INST" "INST_TYPE" "ETA" "SELECT" "CONV"))
-
 (defconst holp-combinators
   '("THEN" "THENL" "ORELSE" "REPEAT" "TRY" "HOST" "THENC" "ORELSEC" "REPEATC" "TRY_CONV" "RAND_CONV" "RATOR_CONV" "ABS_CONV"
     "SUB_CONV" "DEPTH_CONV" "ONCE_DEPTH_CONV" "TOP_DEPTH_CONV" "ALL_CONV" "NO_CONV" "REWR_CONV"))
@@ -64,7 +59,8 @@
     ("`[^`;]*`?" 0 font-lock-string-face t)
     ("\\_<[A-Z0-9_]+_TAC\\_>" . font-lock-function-name-face)
     (,(regexp-opt holp-combinators 'symbols) . font-lock-builtin-face)
-    (,(regexp-opt holp-rules 'symbols) . font-lock-function-name-face)))
+    ("=[ \t\n]*\\([A-Z][A-Z0-9_]*\\)\\_>" 1 font-lock-function-name-face)
+    ("\\_<BETA_CONV\\_>" . font-lock-function-name-face)))
 
 (defvar holp-syntax-table
   (let ((table (make-syntax-table)))

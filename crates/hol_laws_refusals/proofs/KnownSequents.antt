@@ -1,28 +1,28 @@
 -- What rules draw from known formulas is a known formula, and so is what a justification gives over a store of theorems.
-use Rattle.std.proofs.Common.{◌≡◌, ℕ, zero, suc, List, [], ◌∷◌, ◌++◌, map, Bool, true, false, not, ◌&&◌, ◌||◌, refl, sym, ◌∙◌, ap, subst, inl, inr, Option, Some, None, if◌then◌else◌}
+use Rattle.std.proofs.Common.{◌≡◌, ℕ, zero, suc, List, [], ◌∷◌, ◌++◌, map, Bool, true, false, ◌&&◌, refl, sym, ◌∙◌, ap, subst, inl, inr, Option, Some, None, if◌then◌else◌}
 use Rattle.std.specs.Prelude.{slice_get}
 use Rattle.std.specs.Option.{option_map}
 use Rattle.hol_model.specs.Terms.HolType.{HolType, bool_type, function_type, type_eq, dest_function_type, domain_of}
-use Rattle.hol_model.specs.Terms.NamedTerm.{NamedTerm, variable, combination, abstraction, dest_variable, same_variable}
-use Rattle.hol_model.specs.Terms.Nameless.{Nameless, const, bound, app, lam, HasType, image, nameless_type, same_term}
-use Rattle.hol_model.specs.Terms.Substitution.{close, fill, occurs_free}
+use Rattle.hol_model.specs.Terms.NamedTerm.{NamedTerm, variable, combination, abstraction, same_variable}
+use Rattle.hol_model.specs.Terms.Nameless.{Nameless, const, bound, app, lam, HasType, image}
+use Rattle.hol_model.specs.Terms.Substitution.{close, fill}
 use Rattle.hol_model.specs.Logic.Theory.{Theory, IsKnown, IsKnownType, HasKnownParts, generic_type, equality_name, equality_type, type_a, type_b}
 use Rattle.hol_model.specs.Logic.KnownTerm.{knows_type}
 use Rattle.hol_model.specs.Logic.Checks.{knows_nameless}
 use Rattle.hol_model.specs.Logic.Derivable.{IsMember, nameless_equation, eta_variable}
-use Rattle.hol_model.specs.Logic.Logic.{logical_definitions, and_name, or_name, implies_name, not_name, forall_name, false_name, unary, binary, quantifier, predicate, true_term, false_term}
-use Rattle.hol_model.specs.Logic.NamelessLogic.{Equation, Redex, dest_equation, dest_binary, dest_quantified, dest_forall, dest_exists, dest_negation, dest_redex}
+use Rattle.hol_model.specs.Logic.Logic.{logical_definitions, not_name, false_name, unary, binary, quantifier, predicate, true_term, false_term, forall_term}
+use Rattle.hol_model.specs.Logic.NamelessLogic.{negation, Equation, Redex, dest_equation, dest_binary, dest_quantified, dest_negation, dest_redex}
 use Rattle.hol_model.specs.Kernel.Theorem.{Theorem}
 use Rattle.hol_model.specs.Kernel.Rules.{dest_trivial_redex}
 use Rattle.hol_model.specs.Goals.Goals.{Sequent}
 use Rattle.hol_model.specs.Derived.InferenceRules.{InferenceRule}
 use Rattle.hol_model.specs.declared.rule.Rule.TheVariants as rules
-use Rattle.hol_model.specs.Derived.Inference.{Inference, infer, require, given, drawn, passed, is_known_formula, is_known_term, may_replace, may_replace_types, conclusions_of, hypotheses_of}
+use Rattle.hol_model.specs.Derived.Inference.{Inference, infer, require, given, drawn, passed, may_replace, may_replace_types, conclusions_of, hypotheses_of}
 use Rattle.hol_model.specs.Derived.Inference.{rule_sequent}
 use Rattle.hol_model.specs.Goals.Justifications.{Justification, sub, named, lemma, by_rule, Parts, no_parts, part, NamedSequents, Subgoals, joined, sequent_over, sequents_over, sequent_of}
 use Rattle.hol_model.specs.Goals.Replays.{Store, sequents_in, sequent_of_theorem, IsStoreOver}
 use Rattle.hol_model.specs.Refining.RefinerConditions.{HasLogic}
-use Rattle.hol_model.proofs.Tests.{same_variable-type, first_of_both, second_of_both}
+use Rattle.hol_model.proofs.Tests.{same_variable-type}
 use Rattle.hol_model.proofs.Logic.Checks.{knows_nameless-Decides}
 use Rattle.hol_model.proofs.Logic.Known.{equation-known, app-known, close-known, eta_abstraction-known, eta_variable-known, select_conclusion-known}
 use Rattle.hol_model.proofs.Terms.HolTypeEq.{type_eq-Decides}
@@ -139,30 +139,71 @@ module _ (theory : Theory) (has : HasLogic theory) where
   required true next after = after refl
   required false next after = none
 
+  required-both : (first second : Bool) (next : Option Inference) → Concludes (require first (require second next)) → Concludes (require (first && second) next)
+  required-both true second next after = after
+  required-both false second next after = none
+
   from_given : {A : Type 0} (found : Option A) (next : A → Option Inference) → ((x : A) → found ≡ Some x → Concludes (next x)) → Concludes (given found next)
   from_given {A = A} None next after = none
   from_given {A = A} (Some x) next after = after x refl
 
-  equates : (ty : HolType) (l r : Nameless) → IsKnown theory l ty → IsKnown theory r ty → IsKnown theory (nameless_equation ty l r) bool_type
-  equates ty l r left right = equation-known theory has.legal ty l r left right
-
-  connects : (name : List ℕ) → generic_type logical_definitions name ≡ Some binary → (p q : Nameless) → IsFormula theory p → IsFormula theory q → IsFormula theory (app (app (const name binary) p) q)
-  connects name is p q left right = connected-known theory name (logical-type theory has name binary is) p q left right
+  -- ---- what is taken apart
 
   both_formulas : (name : List ℕ) (t : Nameless) (next : Nameless × Nameless → Option Inference) → IsKnown theory t bool_type
       → ((sides : Nameless × Nameless) → IsKnown theory sides.0 bool_type → IsKnown theory sides.1 bool_type → Concludes (next sides)) → Concludes (given (dest_binary name binary t) next)
   both_formulas name t next known after =
       from_given (dest_binary name binary t) next (λ sides is. let parts = binary-parts theory name t sides is known in after sides parts.0 parts.1)
 
-  equation_sides : (t : Nameless) (next : Equation → Option Inference) → IsKnown theory t bool_type → ((sides : Equation) → IsKnownEquation theory sides
-      → Concludes (next sides)) → Concludes (given (dest_equation t) next)
-  equation_sides t next known after = from_given (dest_equation t) next (λ sides is. after sides (equation-parts theory t sides is known))
+  equation_sides : (t : Nameless) (next : Equation → Option Inference) → IsKnown theory t bool_type
+      → ((sides : Equation) → IsKnown theory sides.left sides.ty → IsKnown theory sides.right sides.ty → Concludes (next sides)) → Concludes (given (dest_equation t) next)
+  equation_sides t next known after =
+      from_given (dest_equation t) next (λ sides is. let parts = equation-parts theory t sides is known in after sides parts.left parts.right)
 
-  term_tested : (t : NamedTerm) (next : Option Inference) → (IsKnown theory (image t) (nameless_type [] (image t)) → Concludes next) → Concludes (require (is_known_term theory (image t)) next)
-  term_tested t next after = required (is_known_term theory (image t)) next (λ test. after ((knows_nameless-Decides theory (image t) (nameless_type [] (image t))).0 test))
+  quantified_body : (name : List ℕ) (t : Nameless) (next : HolType × Nameless → Option Inference) → IsKnown theory t bool_type
+      → ((quantified : HolType × Nameless) → IsKnownBody theory quantified → Concludes (next quantified)) → Concludes (given (dest_quantified name t) next)
+  quantified_body name t next known after = from_given (dest_quantified name t) next (λ quantified is. after quantified (quantified-parts theory name t quantified is known))
 
-  formula_tested : (t : NamedTerm) (next : Option Inference) → (IsKnown theory (image t) bool_type → Concludes next) → Concludes (require (is_known_formula theory (image t)) next)
-  formula_tested t next after = required (is_known_formula theory (image t)) next (λ test. after ((knows_nameless-Decides theory (image t) bool_type).0 test))
+  denied : (t : Nameless) (next : Nameless → Option Inference) → IsKnown theory t bool_type
+      → ((p : Nameless) → IsKnown theory p bool_type → Concludes (next p)) → Concludes (given (dest_negation t) next)
+  denied t next known after = from_given (dest_negation t) next (λ p is. after p (negated theory t p is known))
+
+  -- ---- what is put together
+
+  equates : (ty : HolType) (l r : Nameless) → IsKnown theory l ty → IsKnown theory r ty → IsKnown theory (nameless_equation ty l r) bool_type
+  equates ty l r left right = equation-known theory has.legal ty l r left right
+
+  connects : (name : List ℕ) → generic_type logical_definitions name ≡ Some binary → (p q : Nameless) → IsFormula theory p → IsFormula theory q
+      → IsKnown theory (app (app (const name binary) p) q) bool_type
+  connects name is p q left right = connected-known theory name (logical-type theory has name binary is) p q left right
+
+  denies : (p : Nameless) → IsKnown theory p bool_type → IsKnown theory (negation p) bool_type
+  denies p known = negation-known theory has p known
+
+  truth : IsKnown theory true_term bool_type
+  truth = true-known theory has
+
+  falsity : IsKnown theory false_term bool_type
+  falsity = false-known theory (logical-type theory has false_name bool_type refl)
+
+  tested : (term : Nameless) (ty : HolType) → knows_nameless theory term ty ≡ true → IsKnown theory term ty
+  tested term ty test = (knows_nameless-Decides theory term ty).0 test
+
+  tested-type : (ty : HolType) → knows_type theory ty ≡ true → IsKnownType theory ty
+  tested-type ty test = (knows_type-Decides theory ty).0 test
+
+  of-one-type : (term : Nameless) (a b : HolType) → type_eq a b ≡ true → IsKnown theory term b → IsKnown theory term a
+  of-one-type term a b test known = subst (λ (ty : HolType). IsKnown theory term ty) (sym ((type_eq-Decides a b).0 test)) known
+
+  closed : (name : List ℕ) (a b : HolType) (term : Nameless) → IsKnownType theory a → IsKnown theory term b → IsKnown theory (lam a (close name a term)) (function_type a b)
+  closed name a b term there known = close-known theory name a b term there known
+
+  generalized : (name : List ℕ) (ty : HolType) (p : Nameless) → IsKnownType theory ty → IsKnown theory p bool_type → IsKnown theory (forall_term ty (close name ty p)) bool_type
+  generalized name ty p there known =
+      let whole = close-known theory name ty bool_type p there known in
+      forall-known theory has ty (close name ty p) there (closed-typed ty (close name ty p) whole.typed) whole.parts.1
+
+  filled : (term : Nameless) (quantified : HolType × Nameless) → IsKnownBody theory quantified → IsKnown theory term quantified.0 → IsKnown theory (fill term quantified.1) bool_type
+  filled term quantified inside known = fill-known theory term quantified.0 bool_type quantified.1 known inside.typed inside.parts
 
   -- (\x. b) a
   redex-known : (t : Nameless) (redex : Redex) (ty : HolType) → dest_redex t ≡ Some redex → IsKnown theory t ty → IsKnown theory (fill redex.argument redex.body) ty
@@ -192,74 +233,65 @@ module _ (theory : Theory) (has : HasLogic theory) where
           subst (λ (t : NamedTerm). IsKnown theory (image t) ty) same (subst (λ (c : HolType). IsKnown theory (image inner) c) codomain inside.known)
   trivial-known _ body ty dest known = cc
 
-  infer-known : (rule : InferenceRule) (conclusions : List Nameless) → AreFormulas theory conclusions → Concludes (infer theory rule conclusions)
-  infer-known (rules.Refl t) [] k = term_tested t _ (λ known. some _ (equates (nameless_type [] (image t)) (image t) (image t) known known))
-  infer-known rules.Trans (a ∷ b ∷ []) k = equation_sides a _ k.0 (λ left first. equation_sides b _ k.1.0 (λ right second.
-      required (same_term left.right right.left && type_eq left.ty right.ty) _ (λ test.
-      let same : left.ty ≡ right.ty = (type_eq-Decides left.ty right.ty).0 (second_of_both (same_term left.right right.left) (type_eq left.ty right.ty) test) in
-      some _ (equates left.ty left.left right.right first.left (subst (λ (ty : HolType). IsKnown theory right.right ty) (sym same) second.right)))))
-  infer-known rules.MkComb (a ∷ b ∷ []) k = equation_sides a _ k.0 (λ functions first. equation_sides b _ k.1.0 (λ arguments second.
-      from_given (dest_function_type functions.ty) _ (λ arrow is. required (type_eq arrow.0 arguments.ty) _ (λ test. some _ (applied functions arguments arrow first second is test)))))
+  ruleset shown = (
+    none,
+    some,
+    required-both,
+    both_formulas,
+    equation_sides,
+    quantified_body,
+    denied,
+    required,
+    from_given,
+    equates,
+    connects,
+    denies,
+    truth,
+    falsity,
+    tested,
+    tested-type,
+    of-one-type,
+    closed,
+    generalized,
+    filled,
+    redex-known,
+    trivial-known,
+  )
+
+  -- ---- rules
+
+  of_none : (rule : InferenceRule) → Concludes (infer theory rule [])
+  of_none rules.EtaAxiom = some _ (equates (function_type type_a type_b) (lam type_a (app eta_variable (bound 0))) eta_variable eta_abstraction-known eta_variable-known)
+  of_none rules.SelectAxiom = some _ (select_conclusion-known theory has.legal)
+  of_none rule = search shown depth 10
+
+  of_one : (rule : InferenceRule) (a : Nameless) → IsKnown theory a bool_type → Concludes (infer theory rule (a ∷ []))
+  of_one (rules.Inst theta) a known = required (may_replace theory theta.items) _ (λ test. some _ (inst-known theory theta.items a test known))
+  of_one (rules.InstType theta) a known = required (may_replace_types theory theta.items) _ (λ test. some _ (inst_type-known theory theta.items a test known))
+  of_one rule a known = search shown depth 10
+
+  of_two : (rule : InferenceRule) (a b : Nameless) → IsKnown theory a bool_type → IsKnown theory b bool_type → Concludes (infer theory rule (a ∷ b ∷ []))
+  of_two rules.MkComb a b first second = equation_sides a _ first (λ f left right. equation_sides b _ second (λ x low high.
+      from_given (dest_function_type f.ty) _ (λ arrow is. required (type_eq arrow.0 x.ty) _ (λ test. some _ (equates arrow.1 (app f.left x.left) (app f.right x.right)
+      (applied f.ty x.ty arrow f.left x.left is test left low) (applied f.ty x.ty arrow f.right x.right is test right high))))))
     where
-      applied : (functions arguments : Equation) (arrow : HolType × HolType) → IsKnownEquation theory functions → IsKnownEquation theory arguments → dest_function_type functions.ty ≡ Some arrow
-          → type_eq arrow.0 arguments.ty ≡ true
-          → IsKnown theory (nameless_equation arrow.1 (app functions.left arguments.left) (app functions.right arguments.right)) bool_type
-      applied functions arguments arrow first second is test =
-          let function_is : functions.ty ≡ function_type arrow.0 arrow.1 = of_arrow functions.ty arrow is in
-          let argument_is : arguments.ty ≡ arrow.0 = sym ((type_eq-Decides arrow.0 arguments.ty).0 test) in
-          equation-known theory has.legal arrow.1 (app functions.left arguments.left) (app functions.right arguments.right)
-          (app-known theory arrow.0 arrow.1 functions.left arguments.left (subst (λ (ty : HolType). IsKnown theory functions.left ty) function_is first.left)
-          (subst (λ (ty : HolType). IsKnown theory arguments.left ty) argument_is second.left))
-          (app-known theory arrow.0 arrow.1 functions.right arguments.right (subst (λ (ty : HolType). IsKnown theory functions.right ty) function_is first.right)
-          (subst (λ (ty : HolType). IsKnown theory arguments.right ty) argument_is second.right))
-  infer-known (rules.Abs x) (a ∷ []) k = from_given (dest_variable x) _ (λ binder is. equation_sides a _ k.0 (λ sides known. required (knows_type theory binder.1) _ (λ test.
-      let there = (knows_type-Decides theory binder.1).0 test in
-      some _ (equates (function_type binder.1 sides.ty) (lam binder.1 (close binder.0 binder.1 sides.left)) (lam binder.1 (close binder.0 binder.1 sides.right))
-      (close-known theory binder.0 binder.1 sides.ty sides.left there known.left) (close-known theory binder.0 binder.1 sides.ty sides.right there known.right)))))
-  infer-known (rules.Beta t) [] k = from_given (dest_trivial_redex t) _ (λ body is. term_tested t _ (λ known.
-      some _ (equates (nameless_type [] (image t)) (image t) (image body) known (trivial-known t body (nameless_type [] (image t)) is known))))
-  infer-known (rules.Assume p) [] k = formula_tested p _ (λ known. some _ known)
-  infer-known rules.EqMp (a ∷ b ∷ []) k = both_formulas equality_name a _ k.0 (λ sides left right. required (same_term sides.0 b) _ (λ test. some _ right))
-  infer-known rules.DeductAntisym (p ∷ q ∷ []) k = some _ (equates bool_type p q k.0 k.1.0)
-  infer-known (rules.Inst theta) (a ∷ []) k = required (may_replace theory theta.items) _ (λ test. some _ (inst-known theory theta.items a test k.0))
-  infer-known (rules.InstType theta) (a ∷ []) k = required (may_replace_types theory theta.items) _ (λ test. some _ (inst_type-known theory theta.items a test k.0))
-  infer-known rules.EtaAxiom [] k = some _ (equates (function_type type_a type_b) (lam type_a (app eta_variable (bound 0))) eta_variable eta_abstraction-known eta_variable-known)
-  infer-known rules.SelectAxiom [] k = some _ (select_conclusion-known theory has.legal)
-  infer-known rules.Sym (a ∷ []) k = equation_sides a _ k.0 (λ sides known. some _ (equates sides.ty sides.right sides.left known.right known.left))
-  infer-known (rules.AddAssum p) (q ∷ []) k = formula_tested p _ (λ known. some _ k.0)
-  infer-known rules.ProveHyp (p ∷ q ∷ []) k = some _ k.1.0
-  infer-known rules.EqtIntro (p ∷ []) k = some _ (equates bool_type p true_term k.0 (true-known theory has))
-  infer-known rules.EqtElim (a ∷ []) k = both_formulas equality_name a _ k.0 (λ sides left right. required (same_term sides.1 true_term) _ (λ test. some _ left))
-  infer-known (rules.BetaConv t) [] k = from_given (dest_redex (image t)) _ (λ redex is. term_tested t _ (λ known.
-      some _ (equates (nameless_type [] (image t)) (image t) (fill redex.argument redex.body) known (redex-known (image t) redex (nameless_type [] (image t)) is known))))
-  infer-known rules.Conj (p ∷ q ∷ []) k = some _ (connects and_name refl p q k.0 k.1.0)
-  infer-known rules.Conjunct1 (a ∷ []) k = both_formulas and_name a _ k.0 (λ sides left right. some _ left)
-  infer-known rules.Conjunct2 (a ∷ []) k = both_formulas and_name a _ k.0 (λ sides left right. some _ right)
-  infer-known (rules.Disch p) (q ∷ []) k = formula_tested p _ (λ known. some _ (connects implies_name refl (image p) q known k.0))
-  infer-known rules.Undisch (a ∷ []) k = both_formulas implies_name a _ k.0 (λ sides left right. some _ right)
-  infer-known rules.Mp (a ∷ b ∷ []) k = both_formulas implies_name a _ k.0 (λ sides left right. required (same_term sides.0 b) _ (λ test. some _ right))
-  infer-known (rules.Spec t) (a ∷ []) k = from_given (dest_forall a) _ (λ quantified is. required (knows_nameless theory (image t) quantified.0) _ (λ test.
-      let inside = quantified-parts theory forall_name a quantified is k.0 in
-      some _ (fill-known theory (image t) quantified.0 bool_type quantified.1 ((knows_nameless-Decides theory (image t) quantified.0).0 test) inside.typed inside.parts)))
-  infer-known (rules.Gen x) (p ∷ []) k = from_given (dest_variable x) _ (λ binder is. required (knows_type theory binder.1) _ (λ test.
-      let there = (knows_type-Decides theory binder.1).0 test in
-      let closed = close-known theory binder.0 binder.1 bool_type p there k.0 in
-      some _ (forall-known theory has binder.1 (close binder.0 binder.1 p) there (closed-typed binder.1 (close binder.0 binder.1 p) closed.typed) closed.parts.1)))
-  infer-known (rules.Disj1 q) (p ∷ []) k = formula_tested q _ (λ known. some _ (connects or_name refl p (image q) k.0 known))
-  infer-known (rules.Disj2 p) (q ∷ []) k = formula_tested p _ (λ known. some _ (connects or_name refl (image p) q known k.0))
-  infer-known rules.DisjCases (a ∷ b ∷ c ∷ []) k = both_formulas or_name a _ k.0 (λ sides left right. required (same_term b c) _ (λ test. some _ k.1.0))
-  infer-known (rules.Contr p) (a ∷ []) k = required (same_term a false_term && is_known_formula theory (image p)) _ (λ test.
-      some _ ((knows_nameless-Decides theory (image p) bool_type).0 (second_of_both (same_term a false_term) (is_known_formula theory (image p)) test)))
-  infer-known rules.NotIntro (a ∷ []) k = both_formulas implies_name a _ k.0 (λ sides left right. required (same_term sides.1 false_term) _ (λ test. some _ (negation-known theory has sides.0 left)))
-  infer-known rules.NotElim (a ∷ []) k = from_given (dest_negation a) _ (λ p is.
-      some _ (connects implies_name refl p false_term (negated theory a p is k.0) (false-known theory (logical-type theory has false_name bool_type refl))))
-  infer-known (rules.Exists e w) (a ∷ []) k = from_given (dest_exists (image e)) _ (λ quantified is.
-      required (is_known_formula theory (image e) && knows_nameless theory (image w) quantified.0 && same_term (fill (image w) quantified.1) a) _ (λ test.
-      some _ ((knows_nameless-Decides theory (image e) bool_type).0 (first_of_both (is_known_formula theory (image e)) (knows_nameless theory (image w) quantified.0)
-      (first_of_both (is_known_formula theory (image e) && knows_nameless theory (image w) quantified.0) (same_term (fill (image w) quantified.1) a) test)))))
-  infer-known (rules.Choose v) (a ∷ q ∷ []) k = from_given (dest_variable v) _ (λ binder is. from_given (dest_exists a) _ (λ quantified js.
-      required (type_eq binder.1 quantified.0 && not (occurs_free binder.0 binder.1 a || occurs_free binder.0 binder.1 q)) _ (λ test. some _ k.1.0)))
-  infer-known _ _ k = none
+      applied : (f_type x_type : HolType) (arrow : HolType × HolType) (f x : Nameless) → dest_function_type f_type ≡ Some arrow → type_eq arrow.0 x_type ≡ true → IsKnown theory f f_type
+          → IsKnown theory x x_type → IsKnown theory (app f x) arrow.1
+      applied f_type x_type arrow f x is test known there =
+          app-known theory arrow.0 arrow.1 f x (subst (λ (ty : HolType). IsKnown theory f ty) (of_arrow f_type arrow is) known) (of-one-type x arrow.0 x_type test there)
+  of_two rule a b first second = search shown depth 10
+
+  of_three : (rule : InferenceRule) (a b c : Nameless) → IsKnown theory a bool_type → IsKnown theory b bool_type → IsKnown theory c bool_type → Concludes (infer theory rule (a ∷ b ∷ c ∷ []))
+  of_three rules.DisjCases a b c first second third = search shown depth 10
+  of_three rule a b c first second third = search shown depth 10
+
+  infer-known : (rule : InferenceRule) (conclusions : List Nameless) → AreFormulas theory conclusions → Concludes (infer theory rule conclusions)
+  infer-known rule [] k = of_none rule
+  infer-known rule (a ∷ []) k = of_one rule a k.0
+  infer-known rule (a ∷ b ∷ []) k = of_two rule a b k.0 k.1.0
+  infer-known rule (a ∷ b ∷ c ∷ []) k = of_three rule a b c k.0 k.1.0 k.1.1.0
+  infer-known rules.DisjCases (a ∷ b ∷ c ∷ d ∷ more) k = none
+  infer-known rule (a ∷ b ∷ c ∷ d ∷ more) k = none
 
   -- ---- justifications
 

@@ -7,8 +7,8 @@ use Rattle.hol_model.specs.Texts.TypeGrammar.{TypeTree, type_tokens}
 use Rattle.hol_model.specs.Texts.TermGrammar.{TermTree, IsWithin}
 use Rattle.hol_model_rules.specs.declared.rule_name.RuleName.{RuleName}
 use Rattle.hol_model_rules.specs.RuleForms.{form_of, IsRuleOf}
-use Rattle.hol_model_sessions.specs.Commands.{RuleTree, by_name, by_inst, by_inst_type, quoted, quote_tokens, further_tokens, first_tokens, term_pair, type_pair, quotes_tokens, argument_tokens, rule_word, rule_tokens}
-use Rattle.hol_model_sessions.specs.Commands.{IsQuotable, ArePairs, AreTypePairs, AreQuotable, IsRuleTree}
+use Rattle.hol_model_sessions.specs.Commands.{RuleTree, by_name, by_inst, by_inst_type, quoted, quote_tokens, further_tokens, first_tokens, term_pair, type_pair, quotes_tokens, argument_tokens}
+use Rattle.hol_model_sessions.specs.Commands.{rule_word, rule_tokens, IsQuotable, ArePairs, AreTypePairs, AreQuotable, IsRuleTree}
 use Rattle.hol_laws_sessions.specs.UniqueReadings.{SameParse, QuotesAreUnambiguous, TypeQuotesAreUnambiguous, RulesAreUnambiguous}
 use Rattle.hol_model_rules.proofs.Words.{found-word}
 use Rattle.hol_laws_sessions.proofs.UniqueConversions.{look_up}

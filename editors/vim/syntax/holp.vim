@@ -10,9 +10,8 @@ syntax sync match holpSync grouphere NONE /;;/
 syntax match holpTactic /\<[A-Z0-9_]\+_TAC\>/
 syntax keyword holpCombinator THEN THENL ORELSE REPEAT TRY HOST THENC ORELSEC REPEATC TRY_CONV RAND_CONV RATOR_CONV
 syntax keyword holpCombinator ABS_CONV SUB_CONV DEPTH_CONV ONCE_DEPTH_CONV TOP_DEPTH_CONV ALL_CONV NO_CONV REWR_CONV
-syntax keyword holpRule REFL ASSUME BETA BETA_CONV TAUT ABS ADD_ASSUM DISCH SPEC GEN DISJ1 DISJ2 CONTR EXISTS CHOOSE SYM
-syntax keyword holpRule EQT_INTRO EQT_ELIM CONJUNCT1 CONJUNCT2 UNDISCH NOT_INTRO NOT_ELIM TRANS MK_COMB EQ_MP CONJ MP
-syntax keyword holpRule DEDUCT_ANTISYM_RULE PROVE_HYP DISJ_CASES INST INST_TYPE ETA SELECT CONV
+syntax match holpRule /=\s*\zs[A-Z][A-Z0-9_]*\>/
+syntax keyword holpRule BETA_CONV
 syntax match holpEnd /;;/
 highlight default link holpCommand Keyword
 highlight default link holpTerm String
