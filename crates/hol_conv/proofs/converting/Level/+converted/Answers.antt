@@ -219,8 +219,8 @@ abs_conv-returns-in_err-binder-clause-converts g t c =
     rw (p.1, p.2)
     (abs-refused _ _ _ c.in_err-binder.ensures.err)
 
-pub sub_conv-returns-then-depth-ge-DESCENTS_LIMIT-clause-converts : goal.sub_conv-returns-then-depth-ge-DESCENTS_LIMIT-clause-converts
-sub_conv-returns-then-depth-ge-DESCENTS_LIMIT-clause-converts g t c =
+pub sub_conv-returns-then-self-ge-DESCENTS_LIMIT-clause-converts : goal.sub_conv-returns-then-self-ge-DESCENTS_LIMIT-clause-converts
+sub_conv-returns-then-self-ge-DESCENTS_LIMIT-clause-converts g t c =
     let is : combination c.in-Combination.function.now c.in-Combination.argument.now ≡ c.args.t.now = search rules in
     parts-too-deep _ _ _ is (search rules)
 
