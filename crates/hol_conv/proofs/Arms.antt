@@ -1,5 +1,5 @@
 -- Conversions whose calls are made over a library that grows.
-use Rattle.std.proofs.Common.{◌≡◌, ℕ, ◌+◌, ◌<◌, ◌≤◌, List, true, false, refl, sym, subst, arith, Result, Ok, Err, IfOk, IsSome}
+use Rattle.std.proofs.Common.{◌≡◌, ℕ, ◌+◌, ◌<◌, ◌≤◌, List, [], true, false, refl, sym, subst, arith, Result, Ok, Err, IfOk, IsSome}
 use Rattle.hol_model.specs.declared.fault.Fault.{Fault}
 use Rattle.hol_model.specs.declared.fault.Fault.TheVariants.{Memory}
 use Rattle.hol_model.specs.declared.limits.TheConstants.{DESCENTS_LIMIT}
@@ -16,7 +16,7 @@ use Rattle.hol_model.specs.Refining.Conversions.{rand_conv, rator_conv, abs_conv
 use Rattle.hol_model.specs.Refining.Conversions.{Converts, is_caught, of_argument, of_function, of_body, of_parts, if_changed, lacks_part}
 use Rattle.hol_laws_refiners.specs.Laws.{IsEquationOf}
 use Rattle.hol_laws_refiners.proofs.Equations.{conversions-answer-equations}
-use Rattle.hol_laws_refiners.proofs.Repeating.{IsFinal, onto, JoinedSoFar, joined_defined}
+use Rattle.hol_laws_refiners.proofs.Repeating.{IsFinal, onto, JoinedSoFar, joined_defined, joined_tried}
 use Rattle.hol_laws_refiners.proofs.Chains.{ThencSoFar}
 use Rattle.hol_laws_refiners.proofs.Spending.{converts-spends}
 use Rattle.hol_journal.specs.Journal.{Recorded, theorem_in}
@@ -27,7 +27,7 @@ use Rattle.hol_conv_rules.specs.declared.converted.Converted.{Converted}
 use Rattle.hol_conv_rules.specs.Converted.{theorem_of, answered, IsAnswerOf, MakesAnswer}
 use Rattle.hol_conv.specs.Answers.{ConvertsOver, AnswersOver}
 use Rattle.hol_conv.specs.Parts.{AreParts, AreBoundParts}
-use Rattle.hol_conv.specs.Chains.{Tries, Links, proved_by}
+use Rattle.hol_conv.specs.Chains.{Tries, Links, IsExtended, proved_by}
 use Rattle.hol_conv.specs.declared.chain.Chain.{Chain}
 use Rattle.hol_conv.specs.declared.chain.Linked.TheVariants.{GoesOn, Ends}
 use Rattle.hol_conv.specs.declared.chain.Linked.{Linked}
@@ -206,6 +206,26 @@ link-stop {old} {left} {t} {made} from after result so_far before r makes final 
     links-stop _ _ _ _ (answered old.recorder.theory from.current made) result so_far (carried-answer made before r) final
     (links-later from t made left after (Ends result) (continued-twice before makes.continued) links)
 
+-- REPEATC, from its first try
+pub first-off : {old mid : Library} {hosts : HostConversions} {depth steps left : ℕ} {c : Conversion} {t : NamedTerm} {fault : Fault} (after : ℕ) (result : Result Converted Fault)
+    → is_known old.recorder.theory t ≡ true → AnswersOver old hosts depth steps c t (Err fault) left → IsContinued old mid
+    → Tries mid.recorder.theory t (Err fault) left (answered mid.recorder.theory t result) after
+    → AnswersOver old hosts depth steps (repeatc c) t result after × IsFinal (answered old.recorder.theory t result)
+first-off {old} {hosts} {depth} {steps} {left} {c} {t} {fault} after result known r continued is =
+    let start : JoinedSoFar old.recorder.theory (store_in old) hosts depth steps (repeatc c) t steps (repeatc c) [] t = record { decides = λ answer rest final s. (s, final) } in
+    let so_far = joined_defined _ _ _ _ refl start in
+    let is = subst (λ (theory : Theory). Tries theory t (Err fault) left (answered theory t result) after) continued.theory is in
+    links-end _ _ _ _ (Err fault) result known so_far r is
+
+pub first-on : {old mid : Library} {hosts : HostConversions} {depth steps left : ℕ} {c : Conversion} {t : NamedTerm} (made : Converted) (chain : Chain)
+    → AnswersOver old hosts depth steps c t (Ok made) left → IsContinued old mid → IsExtended mid.recorder.theory [] (theorem_of mid.recorder.theory t made) chain
+    → JoinedSoFar old.recorder.theory (store_in old) hosts depth steps (repeatc c) t left (repeatc c) (proved_by old.recorder.theory chain) chain.current
+first-on {old} {hosts} {depth} {steps} {left} {c} {t} made chain r continued is =
+    let start : JoinedSoFar old.recorder.theory (store_in old) hosts depth steps (repeatc c) t steps (repeatc c) [] t = record { decides = λ answer rest final s. (s, final) } in
+    let so_far = joined_tried _ _ _ _ (joined_defined _ _ _ _ refl start) in
+    let is = subst (λ (theory : Theory). IsExtended theory [] (theorem_of theory t made) chain) continued.theory is in
+    links-on _ _ _ _ (Ok (theorem_of old.recorder.theory t made)) chain so_far r (is, refl)
+
 -- what is linked has cost a step
 pub link-costs : {theory : Theory} {store : Store} {hosts : HostConversions} {depth steps left : ℕ} {c : Conversion} {current : NamedTerm}
     (other : Theory) (proved : List Theorem) (t : NamedTerm) (after : ℕ)
@@ -274,3 +294,10 @@ pub starved-at : {theory : Theory} {store : Store} {hosts : HostConversions} {de
 starved-at {theory} {store} {hosts} {depth} {c} {t} steps is =
     let le : steps ≤ steps = omega arith in
     subst (λ (fault : Fault). Converts theory store hosts depth steps c t (Err fault) steps) (sym is) (conv.finds_no_memory le)
+
+-- behind what is answered
+pub starved-behind : (old : Library) {hosts : HostConversions} {depth steps left : ℕ} {c whole : Conversion} {t : NamedTerm} {fault : Fault} (made : Result Converted Fault)
+    → AnswersOver old hosts depth steps c t made left → fault ≡ Memory → Converts old.recorder.theory (store_in old) hosts depth steps whole t (Err fault) left
+starved-behind old {hosts} {depth} {steps} {left} {whole} {t} made r is =
+    let le : left ≤ steps = converts-spends _ _ _ r in
+    subst (λ (fault : Fault). Converts old.recorder.theory (store_in old) hosts depth steps whole t (Err fault) left) (sym is) (conv.finds_no_memory le)

@@ -21,7 +21,7 @@ use Rattle.hol_theorem_library.specs.declared.library.Library.{Library}
 use Rattle.hol_conv_rules.specs.Makes.{Joins, IsRightSide}
 use Rattle.hol_conv_rules.specs.declared.converted.Converted.{Converted}
 use Rattle.hol_conv_rules.specs.declared.converted.Converted.TheVariants.{Changed}
-use Rattle.hol_conv_rules.specs.Converted.{same_theorem, theorem_of, answered, changed_by}
+use Rattle.hol_conv_rules.specs.Converted.{same_theorem, theorem_of, answered, changed_by, IsAnswerOf}
 use Rattle.hol_conv_rules.proofs.Same.{roomy-refl, roomless-refl, same-joined, same-side}
 use Rattle.hol_conv.specs.Chains.{Equates, LeadTo, lead_nowhere, theorems, proved_by, Reflects, without_step, by_refl, Finishes, FinishesBy, IsExtended, IsChain, IsChainFrom, BeginsAt, Settles}
 use Rattle.hol_conv.specs.declared.chain.Chain.{Chain}
@@ -283,3 +283,23 @@ pub pushes-equation : {theory : Theory} (old mid : Chain) (made : Recorded) (ans
     → IsEquationOf old.current (theorem_of theory old.current answer) → IsEquationOf mid.current made.theorem
 pushes-equation {theory} old mid made answer settles is of =
     subst (λ (u : NamedTerm). IsEquationOf u made.theorem) (sym settles.current) (subst (λ (answer : Converted). IsEquationOf old.current (theorem_of theory old.current answer)) is of)
+
+-- ---- chains that begin with an answer
+
+pub begun-answer : (library : Library) {t : NamedTerm} (chain : Chain) (answer : Converted) → chain.current ≡ t → IsAnswerOf library t answer → IsAnswerOf library chain.current answer
+begun-answer library chain answer current is = subst (λ (u : NamedTerm). IsAnswerOf library u answer) (sym current) is
+
+pub begun-equation : (theory : Theory) {t : NamedTerm} (chain : Chain) (answer : Converted) → chain.current ≡ t → IsEquationOf t (theorem_of theory t answer)
+    → IsEquationOf chain.current (theorem_of theory chain.current answer)
+begun-equation theory chain answer current of = subst (λ (u : NamedTerm). IsEquationOf u (theorem_of theory u answer)) (sym current) of
+
+pub begun-chain : {old : Library} (new : Library) {t : NamedTerm} (chain : Chain) (result : Result Chain Fault) → IsChainFrom old t chain → IfOk result (IsChain new)
+    → IfOk result (λ new. (t : NamedTerm) → BeginsAt t chain → BeginsAt t new) → IfOk result (IsChainFrom new t)
+begun-chain new {t} chain (Ok after) is held begun = record { held = held; begun = begun t is.begun }
+begun-chain new chain (Err fault) is held begun = tt
+
+pub begun-extends : (theory : Theory) {t : NamedTerm} (chain : Chain) (answer : Converted) (result : Result Chain Fault) → proved_by theory chain ≡ [] → chain.current ≡ t
+    → IfOk result (IsExtended theory (proved_by theory chain) (theorem_of theory chain.current answer)) → IfOk result (IsExtended theory [] (theorem_of theory t answer))
+begun-extends theory chain answer result none current extends =
+    subst (λ (u : NamedTerm). IfOk result (IsExtended theory [] (theorem_of theory u answer))) current
+    (subst (λ (all : List Theorem). IfOk result (IsExtended theory all (theorem_of theory chain.current answer))) none extends)

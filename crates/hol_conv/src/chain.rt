@@ -225,6 +225,23 @@ fn extended(library: &mut Library, chain: Chain, answer: Converted) -> Result<Ch
     }
 }
 
+/// The chain of an answer on a known term.
+pub(crate) fn begin_by(library: &mut Library, t: &Term, answer: Converted) -> Result<Chain, Fault>
+    requires library { IsLibrary library.old }
+    requires known { is_known library.old.recorder.theory t.now ≡ true }
+    requires answer { IsAnswerOf library.old t.now answer }
+    requires equation { IsEquationOf t.now (theorem_of library.old.recorder.theory t.now answer) }
+    ensures library { IsLibrary library.new }
+    ensures continued { IsContinued library.old library.new }
+    ensures chain { IfOk result (IsChainFrom library.new t.now) }
+    ensures extends { IfOk result (IsExtended library.old.recorder.theory [] (theorem_of library.old.recorder.theory t.now answer)) }
+    ensures err { IfErr result (λ fault. fault ≡ Memory) }
+{
+    let alloc = library.recorder.alloc();
+    let chain = begin(alloc, t)?;
+    extended(library, chain, answer)
+}
+
 /// A chain that goes on, or what is answered behind it.
 #[derive(Drop)]
 pub(crate) enum Linked {

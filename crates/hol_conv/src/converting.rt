@@ -9,7 +9,7 @@ ghost use Rattle.hol_conv_rules.specs.Converted.{answered, MakesAnswer};
 ghost use Rattle.hol_conv.specs.Leaves.{IsLeaf, stands_for, thenc_of, orelsec_of};
 ghost use Rattle.hol_conv.specs.Answers.{IsAsked, ConvertsOver, AnswersOver};
 
-use crate::chain::{Linked, begin, changed, link, or_same, same};
+use crate::chain::{Linked, begin, begin_by, changed, link, or_same, same};
 use crate::leaves::{Leaves, Made};
 use crate::parts::{abstraction, combination};
 use hol_conv_rules::{
@@ -148,7 +148,7 @@ impl<L: Leaves> Level<'_, L> {
         Err(fault)
     }
 
-    // REPEATC, joined by TRANS from the right. What refuses it is not caught.
+    // REPEATC, joined by TRANS from the right. What refuses it is not caught. No chain is begun for what is refused at once.
     #[cycle(converted)]
     fn repeatc(&self, library: &mut Library, conv: &Conv, t: &Term, fuel: &mut Fuel) -> Answer
         requires asked { IsAsked (L.is_ready self.now.leaves.now) library.old t.now }
@@ -157,11 +157,14 @@ impl<L: Leaves> Level<'_, L> {
         ensures last { IsFinal (answered library.old.recorder.theory t.now result) }
         ensures makes { MakesAnswer library.old library.new t.now result }
     {
-        let alloc = library.recorder.alloc();
-        let mut chain = begin(alloc, t)?;
+        let made = match self.converted(library, conv, t, fuel) {
+            Ok(made) => made,
+            Err(fault) => return or_same(library, t, Err(fault), fuel),
+        };
+        let mut chain = begin_by(library, t, made)?;
         loop {
-            let made = self.converted(library, conv, &chain.current, fuel);
-            chain = match link(library, t, chain, made, fuel) {
+            let next = self.converted(library, conv, &chain.current, fuel);
+            chain = match link(library, t, chain, next, fuel) {
                 Linked::GoesOn(chain) => chain,
                 Linked::Ends(result) => return result,
             };

@@ -17,7 +17,7 @@ use Rattle.hol_conv.proofs.Asking.{known-function, known-argument, of-argument, 
 use Rattle.hol_conv.proofs.Asking.{side-later, equation-later, carried, carried-answer, continued-twice}
 use Rattle.hol_conv.proofs.Answering.{is-equation, reflects-leaf, first-part-refused, parts-too-deep, rand-refused, rator-refused, abs-refused}
 use Rattle.hol_conv.proofs.Arms.{argument-arm, function-arm, body-arm, parts-arm, try-arm, once-arm, once-answers, once-stops, depth-arm, depth-stops, thenc-on, thenc-off, thenc-equation}
-use Rattle.hol_conv.proofs.Arms.{link-on, link-off, link-stop, link-costs, link-equations, changed-arm, changed-makes, top-start, top-again, top-below, as-conv, sub-as-abs, starved-at}
+use Rattle.hol_conv.proofs.Arms.{first-on, first-off, link-on, link-off, link-stop, link-costs, link-equations, changed-arm, changed-makes, top-start, top-again, top-below, as-conv, sub-as-abs, starved-at, starved-behind}
 use Rattle.hol_conv.proofs.converting.Level.«+converted».Goals as goal
 
 pub converted-thenc-requires : goal.converted-thenc-requires
@@ -327,14 +327,36 @@ once_depth_conv-returns-else-not-is_caught-clause-converts g t c =
     once-arm c.or_same.result (ap (with_leaves (g.L.Leaves.means c.args.self.now.leaves.now)) c.requires.whole) c.in-Err.ensures.converts (search rules) c.in-Err.ensures.makes c.sub_conv-made.ensures.converts
     c.sub_conv-made.ensures.makes c.or_same.ensures.tries
 
+pub repeatc-returns-in-Err-clause-converts : goal.repeatc-returns-in-Err-clause-converts
+repeatc-returns-in-Err-clause-converts g t c =
+    (first-off _ c.or_same.result c.requires.asked.known c.in-Err.ensures.converts c.in-Err.ensures.makes.continued c.or_same.ensures.tries).0
+
+pub repeatc-returns-in-Err-clause-last : goal.repeatc-returns-in-Err-clause-last
+repeatc-returns-in-Err-clause-last g t c =
+    (first-off _ c.or_same.result c.requires.asked.known c.in-Err.ensures.converts c.in-Err.ensures.makes.continued c.or_same.ensures.tries).1
+
 pub repeatc-returns-in_err-chain-clause-converts : goal.repeatc-returns-in_err-chain-clause-converts
 repeatc-returns-in_err-chain-clause-converts g t c =
     let p = err_from_is_err_and c.from_residual.result c.from_residual.ensures.1 in
     rw (p.1, p.2)
-    (starved-at c.args.fuel.now.left c.in_err-chain.ensures.err)
+    (starved-behind c.args.library.now (Ok c.in-Ok.made) c.in-Ok.ensures.converts c.in_err-chain.ensures.err)
 
-pub repeatc-converted-made-requires : goal.repeatc-converted-made-requires
-repeatc-converted-made-requires g t c =
+pub repeatc-begin_by-requires-clause-equation : goal.repeatc-begin_by-requires-clause-equation
+repeatc-begin_by-requires-clause-equation g t c =
+    link-equations (Ok c.in-Ok.made) c.in-Ok.ensures.makes.continued c.in-Ok.ensures.converts
+
+pub repeatc-loop-chain-init : goal.repeatc-loop-chain-init
+repeatc-loop-chain-init g t c =
+    let makes = c.in-Ok.ensures.makes in
+    let begun = c.in_ok-chain.ensures in (
+      first-on c.in-Ok.made c.in_ok-chain.chain c.in-Ok.ensures.converts makes.continued begun.extends,
+      continued-twice makes.continued begun.continued,
+      begun.library,
+      begun.chain,
+    )
+
+pub repeatc-converted-next-requires : goal.repeatc-converted-next-requires
+repeatc-converted-next-requires g t c =
     let asked = asks-now c.loop-chain.chain.current
     (g.met.L.Leaves.stays_ready c.args.self.now.leaves.now) c.requires.asked c.loop-chain.invariant.1 c.loop-chain.invariant.2
     c.loop-chain.invariant.3.held.known in
@@ -342,36 +364,36 @@ repeatc-converted-made-requires g t c =
 
 pub repeatc-link-requires-clause-chain : goal.repeatc-link-requires-clause-chain
 repeatc-link-requires-clause-chain g t c =
-    chain-later c.converted-made.ensures.makes.continued c.loop-chain.invariant.3
+    chain-later c.converted-next.ensures.makes.continued c.loop-chain.invariant.3
 
 pub repeatc-link-requires-clause-equation : goal.repeatc-link-requires-clause-equation
 repeatc-link-requires-clause-equation g t c =
-    link-equations c.converted-made.result c.converted-made.ensures.makes.continued c.converted-made.ensures.converts
+    link-equations c.converted-next.result c.converted-next.ensures.makes.continued c.converted-next.ensures.converts
 
 pub repeatc-returns-in-Ends-clause-converts : goal.repeatc-returns-in-Ends-clause-converts
 repeatc-returns-in-Ends-clause-converts g t c =
     let so_far = joined_defined _ _ _ _ refl c.loop-chain.invariant.0 in
     (link-off c.loop-chain.chain _ c.in-Ends.result so_far c.loop-chain.invariant.1 c.loop-chain.invariant.3.held.known
-    c.converted-made.ensures.converts c.converted-made.ensures.makes c.in-Ends.ensures.links).0
+    c.converted-next.ensures.converts c.converted-next.ensures.makes c.in-Ends.ensures.links).0
 
 pub repeatc-returns-in-Ends-clause-last : goal.repeatc-returns-in-Ends-clause-last
 repeatc-returns-in-Ends-clause-last g t c =
     let so_far = joined_defined _ _ _ _ refl c.loop-chain.invariant.0 in
     (link-off c.loop-chain.chain _ c.in-Ends.result so_far c.loop-chain.invariant.1 c.loop-chain.invariant.3.held.known
-    c.converted-made.ensures.converts c.converted-made.ensures.makes c.in-Ends.ensures.links).1
+    c.converted-next.ensures.converts c.converted-next.ensures.makes c.in-Ends.ensures.links).1
 
 pub repeatc-loop-chain-smaller : goal.repeatc-loop-chain-smaller
 repeatc-loop-chain-smaller g t c =
-    link-costs c.converted-made.new.library.recorder.theory
-    (proved_by c.converted-made.new.library.recorder.theory c.loop-chain.chain) c.args.t.now _ c.converted-made.result c.in-GoesOn.chain
-    c.converted-made.ensures.converts c.in-GoesOn.ensures.links
+    link-costs c.converted-next.new.library.recorder.theory
+    (proved_by c.converted-next.new.library.recorder.theory c.loop-chain.chain) c.args.t.now _ c.converted-next.result c.in-GoesOn.chain
+    c.converted-next.ensures.converts c.in-GoesOn.ensures.links
 
 pub repeatc-loop-chain-preserved : goal.repeatc-loop-chain-preserved
 repeatc-loop-chain-preserved g t c =
     let so_far = joined_tried _ _ _ _ (joined_defined _ _ _ _ refl c.loop-chain.invariant.0) in
-    let makes = c.converted-made.ensures.makes in
+    let makes = c.converted-next.ensures.makes in
     let goes = c.in-GoesOn.ensures in (
-      link-on c.loop-chain.chain _ c.in-GoesOn.chain so_far c.loop-chain.invariant.1 c.converted-made.ensures.converts makes goes.links,
+      link-on c.loop-chain.chain _ c.in-GoesOn.chain so_far c.loop-chain.invariant.1 c.converted-next.ensures.converts makes goes.links,
       continued-twice c.loop-chain.invariant.1 (continued-twice makes.continued goes.continued),
       goes.library,
       goes.made,
