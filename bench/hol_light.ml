@@ -105,6 +105,7 @@ let next_quoted () =
 let theorem_name () =
   let words = String.split_on_char ' ' (String.sub (Lazy.force script) 0 (String.index (Lazy.force script) '`')) in
   el (length words - 4) words;;
+(* passes over the texts of rules, which are made before the clock starts *)
 let skip count = if prints_same then for i = 1 to count do ignore (next_quoted ()) done;;
 
 (* HOL Light takes two of `~` without a space for one symbol. *)

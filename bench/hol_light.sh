@@ -1,8 +1,9 @@
 #!/bin/sh
 # Builds HOL Light with the peers of the benchmark's works as one native program: `hol_light.sh OUT`.
 # It takes the sources of Debian's package hol-light (up to class.ml) and wants camlp5, ocaml and libnum-ocaml-dev. Call it as
-#     OUT WORK SIZE.. [--same < SCRIPT | --print]
-# It does one work, and writes the seconds of the processor that the work took behind the start, at the end of standard error.
+#     OUT WORK SIZE.. [--same | --print] < SCRIPT
+# SCRIPT is holp's script of the work, which --same and the work `taut` read. It does one work, and writes the seconds of the
+# processor that the work took behind the start, at the end of standard error.
 set -e
 if [ $# -ne 1 ]; then
     echo "usage: hol_light.sh OUT" >&2
