@@ -1,5 +1,5 @@
 -- Conversions whose calls are made over a library that grows.
-use Rattle.std.proofs.Common.{◌≡◌, ℕ, ◌+◌, ◌<◌, ◌≤◌, List, true, false, refl, sym, subst, arith, Result, Ok, Err, IfOk, IsSome}
+use Rattle.std.proofs.Common.{◌≡◌, ℕ, ◌+◌, ◌<◌, ◌≤◌, List, [], ◌∷◌, true, false, refl, sym, subst, arith, Result, Ok, Err, IfOk, IsSome}
 use Rattle.hol_model.specs.declared.fault.Fault.{Fault}
 use Rattle.hol_model.specs.declared.fault.Fault.TheVariants.{Memory}
 use Rattle.hol_model.specs.declared.limits.TheConstants.{DESCENTS_LIMIT}
@@ -16,7 +16,7 @@ use Rattle.hol_model.specs.Refining.Conversions.{rand_conv, rator_conv, abs_conv
 use Rattle.hol_model.specs.Refining.Conversions.{Converts, is_caught, of_argument, of_function, of_body, of_parts, if_changed, lacks_part}
 use Rattle.hol_laws_refiners.specs.Laws.{IsEquationOf}
 use Rattle.hol_laws_refiners.proofs.Equations.{conversions-answer-equations}
-use Rattle.hol_laws_refiners.proofs.Repeating.{IsFinal, onto, JoinedSoFar, joined_defined}
+use Rattle.hol_laws_refiners.proofs.Repeating.{IsFinal, onto, JoinedSoFar, joined_defined, joined_tried, joined_next}
 use Rattle.hol_laws_refiners.proofs.Chains.{ThencSoFar}
 use Rattle.hol_laws_refiners.proofs.Spending.{converts-spends}
 use Rattle.hol_journal.specs.Journal.{Recorded, theorem_in}
@@ -27,7 +27,7 @@ use Rattle.hol_conv_rules.specs.declared.converted.Converted.{Converted}
 use Rattle.hol_conv_rules.specs.Converted.{theorem_of, answered, IsAnswerOf, MakesAnswer}
 use Rattle.hol_conv.specs.Answers.{ConvertsOver, AnswersOver}
 use Rattle.hol_conv.specs.Parts.{AreParts, AreBoundParts}
-use Rattle.hol_conv.specs.Chains.{Tries, Links, proved_by}
+use Rattle.hol_conv.specs.Chains.{Tries, Links, IsExtended, proved_by}
 use Rattle.hol_conv.specs.declared.chain.Chain.{Chain}
 use Rattle.hol_conv.specs.declared.chain.Linked.TheVariants.{GoesOn, Ends}
 use Rattle.hol_conv.specs.declared.chain.Linked.{Linked}
@@ -206,6 +206,26 @@ link-stop {old} {left} {t} {made} from after result so_far before r makes final 
     links-stop _ _ _ _ (answered old.recorder.theory from.current made) result so_far (carried-answer made before r) final
     (links-later from t made left after (Ends result) (continued-twice before makes.continued) links)
 
+-- REPEATC, from its first try
+pub first-off : {old mid : Library} {hosts : HostConversions} {depth steps left : ℕ} {c : Conversion} {t : NamedTerm} {fault : Fault} (after : ℕ) (result : Result Converted Fault)
+    → is_known old.recorder.theory t ≡ true → AnswersOver old hosts depth steps c t (Err fault) left → IsContinued old mid
+    → Tries mid.recorder.theory t (Err fault) left (answered mid.recorder.theory t result) after
+    → AnswersOver old hosts depth steps (repeatc c) t result after × IsFinal (answered old.recorder.theory t result)
+first-off {old} {hosts} {depth} {steps} {left} {c} {t} {fault} after result known r continued is =
+    let start : JoinedSoFar old.recorder.theory (store_in old) hosts depth steps (repeatc c) t steps (repeatc c) [] t = record { decides = λ answer rest final s. (s, final) } in
+    let so_far = joined_defined _ _ _ _ refl start in
+    let is = subst (λ (theory : Theory). Tries theory t (Err fault) left (answered theory t result) after) continued.theory is in
+    links-end _ _ _ _ (Err fault) result known so_far r is
+
+pub first-on : {old mid : Library} {hosts : HostConversions} {depth steps left : ℕ} {c : Conversion} {t : NamedTerm} (made : Converted) (chain : Chain)
+    → AnswersOver old hosts depth steps c t (Ok made) left → IsContinued old mid → IsExtended mid.recorder.theory [] (theorem_of mid.recorder.theory t made) chain
+    → JoinedSoFar old.recorder.theory (store_in old) hosts depth steps (repeatc c) t left (repeatc c) (proved_by old.recorder.theory chain) chain.current
+first-on {old} {hosts} {depth} {steps} {left} {c} {t} made chain r continued is =
+    let start : JoinedSoFar old.recorder.theory (store_in old) hosts depth steps (repeatc c) t steps (repeatc c) [] t = record { decides = λ answer rest final s. (s, final) } in
+    let so_far = joined_tried _ _ _ _ (joined_defined _ _ _ _ refl start) in
+    let is = subst (λ (theory : Theory). IsExtended theory [] (theorem_of theory t made) chain) continued.theory is in
+    links-on _ _ _ _ (Ok (theorem_of old.recorder.theory t made)) chain so_far r (is, refl)
+
 -- what is linked has cost a step
 pub link-costs : {theory : Theory} {store : Store} {hosts : HostConversions} {depth steps left : ℕ} {c : Conversion} {current : NamedTerm}
     (other : Theory) (proved : List Theorem) (t : NamedTerm) (after : ℕ)
@@ -249,14 +269,50 @@ pub top-start : {theory : Theory} {store : Store} {hosts : HostConversions} {dep
 top-start {theory} {store} {hosts} {depth} {first} {steps} {whole} {c} {t} {current} {proved} is so_far =
     joined_defined theory store hosts depth refl (subst (λ (w : Conversion). JoinedSoFar theory store hosts depth first whole t steps w proved current) is so_far)
 
-pub top-again : {theory : Theory} {store : Store} {hosts : HostConversions} {depth first steps : ℕ} {whole c : Conversion} {t current : NamedTerm} {proved : List Theorem} → whole ≡ top_depth_conv c
-    → JoinedSoFar theory store hosts depth first whole t steps (top_depth_conv c) proved current → JoinedSoFar theory store hosts depth first whole t steps whole proved current
-top-again {theory} {store} {hosts} {depth} {first} {steps} {whole} {t} {current} {proved} is so_far =
-    subst (λ (w : Conversion). JoinedSoFar theory store hosts depth first whole t steps w proved current) (sym is) so_far
-
 pub top-below : {theory : Theory} {store : Store} {hosts : HostConversions} {depth steps left : ℕ} {whole c : Conversion} {t : NamedTerm} (made : Result Converted Fault) → whole ≡ top_depth_conv c
     → AnswersAt theory store hosts depth steps (sub_conv whole) t made left → AnswersAt theory store hosts depth steps (sub_conv (top_depth_conv c)) t made left
 top-below {theory} {store} {hosts} {depth} {steps} {left} {t} made is r = subst (λ (w : Conversion). AnswersAt theory store hosts depth steps (sub_conv w) t made left) is r
+
+pub top-refused : {theory : Theory} {store : Store} {hosts : HostConversions} {depth steps left : ℕ} {whole c : Conversion} {t : NamedTerm} {fault : Fault} → whole ≡ top_depth_conv c
+    → Converts theory store hosts depth steps (repeatc c) t (Err fault) left → Converts theory store hosts depth steps whole t (Err fault) left
+top-refused {theory} {store} {hosts} {depth} {steps} {left} {t} {fault} is r =
+    subst (λ (w : Conversion). Converts theory store hosts depth steps w t (Err fault) left) (sym is) (conv.converts_as_defined refl (conv.first_is_refused r))
+
+-- where nothing below changes
+pub top-tried : {old new : Library} {hosts : HostConversions} {depth steps mid left : ℕ} {whole c : Conversion} {t : NamedTerm} {fault : Fault} {under : Result Converted Fault}
+    (last : Result Converted Fault) → whole ≡ top_depth_conv c → AnswersOver old hosts depth steps (sub_conv whole) t under mid → MakesAnswer old new t under
+    → Err fault ≡ if_changed t (answered old.recorder.theory t under) → Tries new.recorder.theory t (Err fault) mid (answered new.recorder.theory t last) left
+    → AnswersOver old hosts depth steps (top-rest c) t last left
+top-tried {c} {fault} {under} last whole_is r makes is tries =
+    let refused = changed-arm under (Err fault) (top-below under whole_is r) is in
+    try-arm {c = thenc (changed_conv (sub_conv (top_depth_conv c))) (one_more (conv.try_conv (thenc c (one_more (top_depth_conv c)))))} {made = Err fault} last
+    (conv.first_is_refused refused) (changed-makes under (Err fault) makes tt) tries
+
+pub top-ends : {old mid new : Library} {hosts : HostConversions} {depth steps first left : ℕ} {whole c : Conversion} {t right : NamedTerm} {begun : Converted}
+    (last result : Result Converted Fault) → whole ≡ top_depth_conv c → AnswersOver old hosts depth steps (repeatc c) t (Ok begun) first → MakesAnswer old mid t (Ok begun)
+    → IsRightSide (theorem_of mid.recorder.theory t begun) right → AnswersOver mid hosts depth first (top-rest c) right last left → IsContinued mid new
+    → Joins (onto new.recorder.theory (theorem_of new.recorder.theory t begun) (answered new.recorder.theory right last)) (answered new.recorder.theory t result)
+    → AnswersOver old hosts depth steps whole t result left
+top-ends {old} {hosts} {depth} {steps} {left} {t} {right} {begun} last result whole_is r one side s continued joins =
+    let joins = joins-later (λ theory. onto theory (theorem_of theory t begun) (answered theory right last)) (λ theory. answered theory t result) (continued-twice one.continued continued) joins in
+    subst (λ (w : Conversion). AnswersOver old hosts depth steps w t result left) (sym whole_is)
+    (conv.converts_as_defined refl (then-answers _ _ _ (answered old.recorder.theory right last) r (side-before t begun one.continued side).is (carried-answer last one.continued s) joins))
+
+-- where something does
+pub top-on : {old mid new : Library} {hosts : HostConversions} {depth steps first left : ℕ} {whole c : Conversion} {t right : NamedTerm} {begun : Converted}
+    (under : Result Converted Fault) (found : Converted) (chain : Chain)
+    → whole ≡ top_depth_conv c → AnswersOver old hosts depth steps (repeatc c) t (Ok begun) first → MakesAnswer old mid t (Ok begun)
+    → IsRightSide (theorem_of mid.recorder.theory t begun) right → AnswersOver mid hosts depth first (sub_conv whole) right under left
+    → Ok (theorem_of mid.recorder.theory right found) ≡ if_changed right (answered mid.recorder.theory right under) → IsContinued mid new
+    → IsExtended new.recorder.theory (theorem_of new.recorder.theory t begun ∷ []) (theorem_of new.recorder.theory right found) chain
+    → JoinedSoFar old.recorder.theory (store_in old) hosts depth steps whole t left (conv.try_conv (thenc c (one_more (top_depth_conv c)))) (proved_by old.recorder.theory chain) chain.current
+top-on {old} {hosts} {depth} {steps} {first} {whole} {c} {t} {right} {begun} under found chain whole_is r one side s is continued extends =
+    let start : JoinedSoFar old.recorder.theory (store_in old) hosts depth steps whole t steps whole [] t = record { decides = λ answer rest final s. (s, final) } in
+    let so_far = joined_next _ _ _ _ (top-start whole_is start) r (side-before t begun one.continued side).is in
+    let so_far = joined_tried _ _ _ _ (joined_defined _ _ _ _ refl so_far) in
+    let below = carried-answer (Ok found) one.continued (changed-arm under (Ok found) (top-below under whole_is s) is) in
+    let extends = subst (λ (theory : Theory). IsExtended theory (theorem_of theory t begun ∷ []) (theorem_of theory right found) chain) (continued-twice one.continued continued).theory extends in
+    links-on _ _ _ _ (Ok (theorem_of old.recorder.theory right found)) chain so_far below (extends, refl)
 
 pub as-conv : {theory : Theory} {store : Store} {hosts : HostConversions} {depth steps left : ℕ} {c d : Conversion} {t : NamedTerm} {answer : Result Theorem Fault} → c ≡ d
     → Converts theory store hosts depth steps d t answer left → Converts theory store hosts depth steps c t answer left
@@ -274,3 +330,19 @@ pub starved-at : {theory : Theory} {store : Store} {hosts : HostConversions} {de
 starved-at {theory} {store} {hosts} {depth} {c} {t} steps is =
     let le : steps ≤ steps = omega arith in
     subst (λ (fault : Fault). Converts theory store hosts depth steps c t (Err fault) steps) (sym is) (conv.finds_no_memory le)
+
+-- behind what is answered
+pub starved-behind : (old : Library) {hosts : HostConversions} {depth steps left : ℕ} {c whole : Conversion} {t : NamedTerm} {fault : Fault} (made : Result Converted Fault)
+    → AnswersOver old hosts depth steps c t made left → fault ≡ Memory → Converts old.recorder.theory (store_in old) hosts depth steps whole t (Err fault) left
+starved-behind old {hosts} {depth} {steps} {left} {whole} {t} made r is =
+    let le : left ≤ steps = converts-spends _ _ _ r in
+    subst (λ (fault : Fault). Converts old.recorder.theory (store_in old) hosts depth steps whole t (Err fault) left) (sym is) (conv.finds_no_memory le)
+
+pub starved-twice : {old mid : Library} {hosts : HostConversions} {depth steps first left : ℕ} {c d whole : Conversion} {t u : NamedTerm} {fault : Fault} (made next : Result Converted Fault)
+    → IsContinued old mid → AnswersOver old hosts depth steps c t made first → AnswersOver mid hosts depth first d u next left → fault ≡ Memory
+    → Converts old.recorder.theory (store_in old) hosts depth steps whole t (Err fault) left
+starved-twice {old} {hosts} {depth} {steps} {first} {left} {whole} {t} made next continued r s is =
+    let one : first ≤ steps = converts-spends _ _ _ r in
+    let two : left ≤ first = converts-spends _ _ _ s in
+    let le : left ≤ steps = omega (arith, one, two) in
+    subst (λ (fault : Fault). Converts old.recorder.theory (store_in old) hosts depth steps whole t (Err fault) left) (sym is) (conv.finds_no_memory le)

@@ -1,5 +1,5 @@
 -- Theorems joined from the right, and ALL_CONV.
-use Rattle.std.proofs.Common.{◌≡◌, ℕ, suc, List, [], ◌∷◌, ◌++◌, length, append-nil, inl, inr, refl, sym, ap, ◌∙◌, subst, if◌then◌else◌, Bool, true, false, Result, Ok, Err, IfOk}
+use Rattle.std.proofs.Common.{◌≡◌, ℕ, suc, List, [], ◌∷◌, ◌++◌, length, append-nil, inl, inr, refl, sym, ap, ◌∙◌, subst, if◌then◌else◌, Bool, true, false, Some, Result, Ok, Err, IfOk}
 use Rattle.std.specs.List.{All}
 use Rattle.std.proofs.lemmas.List.{map-append}
 use Rattle.std.proofs.lemmas.List.Elements.{All-nil, All-weaker, All-push}
@@ -20,8 +20,8 @@ use Rattle.hol_theorem_library.specs.Library.{IsContinued}
 use Rattle.hol_theorem_library.specs.declared.library.Library.{Library}
 use Rattle.hol_conv_rules.specs.Makes.{Joins, IsRightSide}
 use Rattle.hol_conv_rules.specs.declared.converted.Converted.{Converted}
-use Rattle.hol_conv_rules.specs.declared.converted.Converted.TheVariants.{Changed}
-use Rattle.hol_conv_rules.specs.Converted.{same_theorem, theorem_of, answered, changed_by}
+use Rattle.hol_conv_rules.specs.declared.converted.Converted.TheVariants.{Same, Changed}
+use Rattle.hol_conv_rules.specs.Converted.{same_theorem, theorem_of, answered, changed_by, IsAnswerOf}
 use Rattle.hol_conv_rules.proofs.Same.{roomy-refl, roomless-refl, same-joined, same-side}
 use Rattle.hol_conv.specs.Chains.{Equates, LeadTo, lead_nowhere, theorems, proved_by, Reflects, without_step, by_refl, Finishes, FinishesBy, IsExtended, IsChain, IsChainFrom, BeginsAt, Settles}
 use Rattle.hol_conv.specs.declared.chain.Chain.{Chain}
@@ -283,3 +283,63 @@ pub pushes-equation : {theory : Theory} (old mid : Chain) (made : Recorded) (ans
     → IsEquationOf old.current (theorem_of theory old.current answer) → IsEquationOf mid.current made.theorem
 pushes-equation {theory} old mid made answer settles is of =
     subst (λ (u : NamedTerm). IsEquationOf u made.theorem) (sym settles.current) (subst (λ (answer : Converted). IsEquationOf old.current (theorem_of theory old.current answer)) is of)
+
+-- ---- chains that begin with an answer
+
+pub begun-answer : (library : Library) {t : NamedTerm} (chain : Chain) (answer : Converted) → chain.current ≡ t → IsAnswerOf library t answer → IsAnswerOf library chain.current answer
+begun-answer library chain answer current is = subst (λ (u : NamedTerm). IsAnswerOf library u answer) (sym current) is
+
+pub begun-equation : (theory : Theory) {t : NamedTerm} (chain : Chain) (answer : Converted) → chain.current ≡ t → IsEquationOf t (theorem_of theory t answer)
+    → IsEquationOf chain.current (theorem_of theory chain.current answer)
+begun-equation theory chain answer current of = subst (λ (u : NamedTerm). IsEquationOf u (theorem_of theory u answer)) (sym current) of
+
+pub begun-chain : {old : Library} (new : Library) {t : NamedTerm} (chain : Chain) (result : Result Chain Fault) → IsChainFrom old t chain → IfOk result (IsChain new)
+    → IfOk result (λ new. (t : NamedTerm) → BeginsAt t chain → BeginsAt t new) → IfOk result (IsChainFrom new t)
+begun-chain new {t} chain (Ok after) is held begun = record { held = held; begun = begun t is.begun }
+begun-chain new chain (Err fault) is held begun = tt
+
+pub begun-extends : (theory : Theory) {t : NamedTerm} (chain : Chain) (answer : Converted) (result : Result Chain Fault) → proved_by theory chain ≡ [] → chain.current ≡ t
+    → IfOk result (IsExtended theory (proved_by theory chain) (theorem_of theory chain.current answer)) → IfOk result (IsExtended theory [] (theorem_of theory t answer))
+begun-extends theory chain answer result none current extends =
+    subst (λ (u : NamedTerm). IfOk result (IsExtended theory [] (theorem_of theory u answer))) current
+    (subst (λ (all : List Theorem). IfOk result (IsExtended theory all (theorem_of theory chain.current answer))) none extends)
+
+-- and with one more on its right side
+pub twice-answers : {old new : Library} (chain : Chain) (second : Converted) → IsContinued old new → IsAnswerOf old chain.current second → IsAnswerOf new chain.current second
+twice-answers chain Same continued is = is
+twice-answers {old} {new} chain (Changed made) continued is = journals-grow.stays old.recorder new.recorder made continued.grown is
+
+pub twice-equation : {old new : Library} (chain : Chain) (second : Converted) → IsContinued old new → IsEquationOf chain.current (theorem_of old.recorder.theory chain.current second)
+    → IsEquationOf chain.current (theorem_of new.recorder.theory chain.current second)
+twice-equation chain second continued of = subst (λ (theory : Theory). IsEquationOf chain.current (theorem_of theory chain.current second)) (sym continued.theory) of
+
+the-sides : {a b : NamedTerm × NamedTerm} → Some a ≡ Some b → a ≡ b
+the-sides is = cc
+
+one-side : {theorem : Theorem} {a b : NamedTerm} → IsRightSide theorem a → IsRightSide theorem b → a ≡ b
+one-side one other = ap (λ (sides : NamedTerm × NamedTerm). sides.1) (the-sides (sym one.is ∙ other.is))
+
+pub twice-extends : {old mid : Library} (t : NamedTerm) (first second : Converted) (chain : Chain) (result : Result Chain Fault) → IsContinued old mid
+    → IsExtended old.recorder.theory [] (theorem_of old.recorder.theory t first) chain
+    → IfOk result (IsExtended mid.recorder.theory (proved_by mid.recorder.theory chain) (theorem_of mid.recorder.theory chain.current second))
+    → (right : NamedTerm) → IsRightSide (theorem_of old.recorder.theory t first) right
+    → IfOk result (IsExtended old.recorder.theory (theorem_of old.recorder.theory t first ∷ []) (theorem_of old.recorder.theory right second))
+twice-extends {old} t first second chain result continued begun extends right side =
+    let extends = subst (λ (theory : Theory). IfOk result (IsExtended theory (proved_by theory chain) (theorem_of theory chain.current second))) continued.theory extends in
+    let extends = subst (λ (all : List Theorem). IfOk result (IsExtended old.recorder.theory all (theorem_of old.recorder.theory chain.current second))) begun.proved extends in
+    subst (λ (u : NamedTerm). IfOk result (IsExtended old.recorder.theory (theorem_of old.recorder.theory t first ∷ []) (theorem_of old.recorder.theory u second)))
+    (one-side begun.right side) extends
+
+-- what was answered on the right side
+pub on-side-answers : {mid new : Library} {right : NamedTerm} (t : NamedTerm) (first second : Converted) → IsContinued mid new → IsRightSide (theorem_of mid.recorder.theory t first) right
+    → IsAnswerOf new right second → (u : NamedTerm) → IsRightSide (theorem_of new.recorder.theory t first) u → IsAnswerOf new u second
+on-side-answers {new} {right} t first second continued side is u other =
+    let side = subst (λ (theory : Theory). IsRightSide (theorem_of theory t first) right) (sym continued.theory) side in
+    subst (λ (u : NamedTerm). IsAnswerOf new u second) (one-side side other) is
+
+pub on-side-equation : {mid new : Library} {right : NamedTerm} (t : NamedTerm) (first second : Converted) → IsContinued mid new → IsRightSide (theorem_of mid.recorder.theory t first) right
+    → IsEquationOf right (theorem_of new.recorder.theory right second) → (u : NamedTerm) → IsRightSide (theorem_of new.recorder.theory t first) u
+    → IsEquationOf u (theorem_of new.recorder.theory u second)
+on-side-equation {new} {right} t first second continued side is u other =
+    let side = subst (λ (theory : Theory). IsRightSide (theorem_of theory t first) right) (sym continued.theory) side in
+    subst (λ (u : NamedTerm). IsEquationOf u (theorem_of new.recorder.theory u second)) (one-side side other) is

@@ -1,6 +1,6 @@
 // Theorems that are joined by TRANS: each of the right side of the one before. That a term equals itself is not made where it
 // changes no answer.
-ghost use Rattle.std.specs.Prelude.{◌≡◌, [], true, false, Ok, IfOk, IfErr};
+ghost use Rattle.std.specs.Prelude.{◌≡◌, [], ◌∷◌, true, false, Ok, IfOk, IfErr};
 ghost use Rattle.std.specs.List.{All};
 ghost use Rattle.hol_model.specs.declared.fault.Fault.TheVariants.{Memory};
 ghost use Rattle.hol_model.specs.Terms.NamedTerm.{NamedTerm};
@@ -12,7 +12,7 @@ ghost use Rattle.hol_laws_refiners.proofs.Repeating.{joined_from};
 ghost use Rattle.hol_journal.specs.Journal.{IsMade, theorem_in};
 ghost use Rattle.hol_theorem_library.specs.Library.{IsLibrary, IsContinued};
 ghost use Rattle.hol_theorem_library.specs.declared.library.Library as library;
-ghost use Rattle.hol_conv_rules.specs.Makes.{Makes, Joins};
+ghost use Rattle.hol_conv_rules.specs.Makes.{Makes, Joins, IsRightSide};
 ghost use Rattle.hol_conv_rules.specs.Converted.{theorem_of, answered, IsAnswerOf, MakesAnswer};
 ghost use Rattle.hol_conv.specs.Chains as chains;
 ghost use Rattle.hol_conv.specs.Chains.{proved_by, LeadUpTo, IsChain, BeginsAt, IsChainFrom, Settles, Reflects, Finishes, Tries, IsExtended, Links, LinksMade};
@@ -223,6 +223,47 @@ fn extended(library: &mut Library, chain: Chain, answer: Converted) -> Result<Ch
         }),
         Converted::Changed(made) => pushed(library, chain, made),
     }
+}
+
+/// The chain of an answer on a known term.
+pub(crate) fn begin_by(library: &mut Library, t: &Term, answer: Converted) -> Result<Chain, Fault>
+    requires library { IsLibrary library.old }
+    requires known { is_known library.old.recorder.theory t.now ≡ true }
+    requires answer { IsAnswerOf library.old t.now answer }
+    requires equation { IsEquationOf t.now (theorem_of library.old.recorder.theory t.now answer) }
+    ensures library { IsLibrary library.new }
+    ensures continued { IsContinued library.old library.new }
+    ensures chain { IfOk result (IsChainFrom library.new t.now) }
+    ensures extends { IfOk result (IsExtended library.old.recorder.theory [] (theorem_of library.old.recorder.theory t.now answer)) }
+    ensures err { IfErr result (λ fault. fault ≡ Memory) }
+{
+    let alloc = library.recorder.alloc();
+    let chain = begin(alloc, t)?;
+    extended(library, chain, answer)
+}
+
+/// The chain of an answer on a known term, and of one on its right side.
+pub(crate) fn begin_twice(
+    library: &mut Library,
+    t: &Term,
+    first: Converted,
+    second: Converted,
+) -> Result<Chain, Fault>
+    requires library { IsLibrary library.old }
+    requires known { is_known library.old.recorder.theory t.now ≡ true }
+    requires first { IsAnswerOf library.old t.now first }
+    requires equation { IsEquationOf t.now (theorem_of library.old.recorder.theory t.now first) }
+    requires second { (right : NamedTerm) → IsRightSide (theorem_of library.old.recorder.theory t.now first) right → IsAnswerOf library.old right second }
+    requires next { (right : NamedTerm) → IsRightSide (theorem_of library.old.recorder.theory t.now first) right → IsEquationOf right (theorem_of library.old.recorder.theory right second) }
+    ensures library { IsLibrary library.new }
+    ensures continued { IsContinued library.old library.new }
+    ensures chain { IfOk result (IsChainFrom library.new t.now) }
+    ensures extends { (right : NamedTerm) → IsRightSide (theorem_of library.old.recorder.theory t.now first) right
+        → IfOk result (IsExtended library.old.recorder.theory (theorem_of library.old.recorder.theory t.now first ∷ []) (theorem_of library.old.recorder.theory right second)) }
+    ensures err { IfErr result (λ fault. fault ≡ Memory) }
+{
+    let chain = begin_by(library, t, first)?;
+    extended(library, chain, second)
 }
 
 /// A chain that goes on, or what is answered behind it.

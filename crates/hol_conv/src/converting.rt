@@ -9,7 +9,7 @@ ghost use Rattle.hol_conv_rules.specs.Converted.{answered, MakesAnswer};
 ghost use Rattle.hol_conv.specs.Leaves.{IsLeaf, stands_for, thenc_of, orelsec_of};
 ghost use Rattle.hol_conv.specs.Answers.{IsAsked, ConvertsOver, AnswersOver};
 
-use crate::chain::{Linked, begin, changed, link, or_same, same};
+use crate::chain::{Linked, begin_by, begin_twice, changed, link, or_same, same};
 use crate::leaves::{Leaves, Made};
 use crate::parts::{abstraction, combination};
 use hol_conv_rules::{
@@ -148,7 +148,7 @@ impl<L: Leaves> Level<'_, L> {
         Err(fault)
     }
 
-    // REPEATC, joined by TRANS from the right. What refuses it is not caught.
+    // REPEATC, joined by TRANS from the right. What refuses it is not caught. No chain is begun for what is refused at once.
     #[cycle(converted)]
     fn repeatc(&self, library: &mut Library, conv: &Conv, t: &Term, fuel: &mut Fuel) -> Answer
         requires asked { IsAsked (L.is_ready self.now.leaves.now) library.old t.now }
@@ -157,11 +157,14 @@ impl<L: Leaves> Level<'_, L> {
         ensures last { IsFinal (answered library.old.recorder.theory t.now result) }
         ensures makes { MakesAnswer library.old library.new t.now result }
     {
-        let alloc = library.recorder.alloc();
-        let mut chain = begin(alloc, t)?;
+        let made = match self.converted(library, conv, t, fuel) {
+            Ok(made) => made,
+            Err(fault) => return or_same(library, t, Err(fault), fuel),
+        };
+        let mut chain = begin_by(library, t, made)?;
         loop {
-            let made = self.converted(library, conv, &chain.current, fuel);
-            chain = match link(library, t, chain, made, fuel) {
+            let next = self.converted(library, conv, &chain.current, fuel);
+            chain = match link(library, t, chain, next, fuel) {
                 Linked::GoesOn(chain) => chain,
                 Linked::Ends(result) => return result,
             };
@@ -293,7 +296,7 @@ impl<L: Leaves> Level<'_, L> {
         }
     }
 
-    // TOP_DEPTH_CONV, the whole of a part, joined by TRANS from the right.
+    // TOP_DEPTH_CONV, the whole of a part, joined by TRANS from the right. No chain is begun where nothing below changes.
     #[cycle(converted)]
     fn top_depth_conv(
         &self,
@@ -308,9 +311,23 @@ impl<L: Leaves> Level<'_, L> {
         ensures converts { AnswersOver library.old (L.hosts self.now.leaves.now) self.now.depth fuel.old.left (stands_for (L.means self.now.leaves.now) whole.now) t.now result fuel.new.left }
         ensures makes { MakesAnswer library.old library.new t.now result }
     {
-        let alloc = library.recorder.alloc();
-        let mut chain = begin(alloc, t)?;
+        let begun = self.repeatc(library, part, t, fuel)?;
+        let right = right_of(library, t, &begun);
+        let under = self.sub_conv(library, whole, right, fuel);
+        let found = match changed(right, under) {
+            Ok(found) => found,
+            Err(fault) => {
+                let last = or_same(library, right, Err(fault), fuel);
+                return then(library, t, &begun, right, last);
+            }
+        };
+        let mut chain = begin_twice(library, t, begun, found)?;
         loop {
+            let again = self.converted(library, part, &chain.current, fuel);
+            chain = match link(library, t, chain, again, fuel) {
+                Linked::GoesOn(chain) => chain,
+                Linked::Ends(result) => return result,
+            };
             let here = self.repeatc(library, part, &chain.current, fuel);
             chain = match link(library, t, chain, here, fuel) {
                 Linked::GoesOn(chain) => chain,
@@ -319,11 +336,6 @@ impl<L: Leaves> Level<'_, L> {
             let below = self.sub_conv(library, whole, &chain.current, fuel);
             let below = changed(&chain.current, below);
             chain = match link(library, t, chain, below, fuel) {
-                Linked::GoesOn(chain) => chain,
-                Linked::Ends(result) => return result,
-            };
-            let again = self.converted(library, part, &chain.current, fuel);
-            chain = match link(library, t, chain, again, fuel) {
                 Linked::GoesOn(chain) => chain,
                 Linked::Ends(result) => return result,
             };

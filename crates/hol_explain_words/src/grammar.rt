@@ -4,12 +4,13 @@ use crate::messages::Message;
 use crate::no_memory::NoMemory;
 use crate::piece::Piece;
 use crate::tables::{front, line_of_pair};
+use hol_model_rules::{RULES, RuleName};
 use std::alloc::Global;
 
 // Each line has a symbol and a word that may stand at it, and behind them the symbols that are wanted next. `#name`, `#number`,
 // `#quote`, `#unclosed` and `#end` are any word of that kind, and `#any` takes no word, where none of the others stands there.
 // What is expected at a symbol stands behind `#part`, or behind `#choice` where a message lists the words that may stand there.
-// A symbol whose words were passed over before stands behind `#also`.
+// A symbol whose words were passed over before stands behind `#also`. The rules of the table of names stand at `rule` too.
 const GRAMMAR: &str = "\
 command #choice a command
 command thm name is_rule rule end
@@ -45,40 +46,8 @@ stored #name
 theorem #part the name of a theorem
 theorem #name
 rule #choice a rule
-rule REFL quote
-rule ASSUME quote
-rule BETA quote
-rule ABS quote stored
-rule TRANS stored stored
-rule MK_COMB stored stored
-rule EQ_MP stored stored
-rule DEDUCT_ANTISYM_RULE stored stored
 rule INST pairs stored
 rule INST_TYPE pairs stored
-rule ETA
-rule SELECT
-rule SYM stored
-rule ADD_ASSUM quote stored
-rule PROVE_HYP stored stored
-rule BETA_CONV quote
-rule EQT_INTRO stored
-rule EQT_ELIM stored
-rule CONJ stored stored
-rule CONJUNCT1 stored
-rule CONJUNCT2 stored
-rule DISCH quote stored
-rule UNDISCH stored
-rule MP stored stored
-rule SPEC quote stored
-rule GEN quote stored
-rule DISJ1 quote stored
-rule DISJ2 quote stored
-rule DISJ_CASES stored stored stored
-rule CONTR quote stored
-rule NOT_INTRO stored
-rule NOT_ELIM stored
-rule EXISTS quote quote stored
-rule CHOOSE quote stored stored
 rule TAUT quote
 rule CONV conversion quote
 pairs #part `[` and pairs of quoted texts
@@ -228,9 +197,22 @@ further #any
 end_of_term #part an infix (`<=>`, `==>`, `\\/`, `/\\` or `=`), an argument (a name, `(` or `[`) or the end of the term
 end_of_term #end";
 
+// What is wanted behind a rule, by the number of its terms and of its theorems.
+const ARGUMENTS: [[&str; 4]; 3] = [
+    ["", "stored", "stored stored", "stored stored stored"],
+    ["quote", "quote stored", "quote stored stored", "quote stored stored stored"],
+    ["quote quote", "quote quote stored", "quote quote stored stored", "quote quote stored stored stored"],
+];
+
 // The symbols behind a symbol and a word, where the grammar has such a line.
 fn behind(symbol: &str, word: &str) -> Option<&'static str> {
-    line_of_pair(GRAMMAR, symbol, word)
+    match line_of_pair(GRAMMAR, symbol, word) {
+        None if symbol == "rule" => {
+            let rule = RuleName::of_word(word)?;
+            ARGUMENTS.get(rule.terms())?.get(rule.theorems()).copied()
+        }
+        line => line,
+    }
 }
 
 /// How far a text is read: the place in the list of the first word that is not, and the symbol at which it cannot stand.
@@ -317,6 +299,11 @@ pub(crate) fn push_words(
     words: &mut Vec<String>,
     symbol: &str,
 ) -> Result<(), NoMemory> {
+    if symbol == "rule" {
+        for rule in &RULES {
+            push_name(alloc, words, rule.word())?;
+        }
+    }
     for line in GRAMMAR.lines() {
         let (known, rest) = front(line);
         let (word, _) = front(rest);

@@ -179,3 +179,22 @@ pub room-not_elim : {journal : Journal} {logic : Logic} {a : Theorem} {result : 
 room-not_elim {journal} {logic} {a} {result} has legal premise answers =
     stated-room journal.theory rules.NotElim (a ∷ []) (terms_of_theorem a) (not_elim_outcome a) result (drawn-not_elim journal logic has legal a premise)
     (fits-given (dest_negation a.conclusion) BadShape (λ p. stated (images a) (implication p false_term)) (λ is. cc) (λ p. tt)) (λ room. one-roomy room) answers
+
+-- by the number of premises; what takes the type of a term is cited by answers
+
+pub ruleset derived_of_one = (
+  room-sym,
+  room-add_assum,
+  room-eqt_intro,
+  room-eqt_elim,
+  room-conjunct1,
+  room-conjunct2,
+  room-undisch,
+  room-contr,
+  room-not_intro,
+  room-not_elim,
+)
+
+pub ruleset derived_of_two = (room-prove_hyp, room-conj, room-mp)
+
+pub ruleset derived_of_three = (room-disj_cases)

@@ -16,40 +16,8 @@ use Rattle.hol_just_replay.specs.Outcomes.{lent_theorems, AnswersBy}
 use Rattle.hol_just_replay.proofs.KernelRooms.{room-refused}
 
 pub none_of_four : (theory : Theory) (rule : InferenceRule) (a b c d : Nameless) (rest : List Nameless) → infer theory rule (a ∷ b ∷ c ∷ d ∷ rest) ≡ None
-none_of_four theory (rules.Refl t) a b c d rest = refl
-none_of_four theory rules.Trans a b c d rest = refl
-none_of_four theory rules.MkComb a b c d rest = refl
-none_of_four theory (rules.Abs x) a b c d rest = refl
-none_of_four theory (rules.Beta t) a b c d rest = refl
-none_of_four theory (rules.Assume p) a b c d rest = refl
-none_of_four theory rules.EqMp a b c d rest = refl
-none_of_four theory rules.DeductAntisym a b c d rest = refl
-none_of_four theory (rules.Inst theta) a b c d rest = refl
-none_of_four theory (rules.InstType theta) a b c d rest = refl
-none_of_four theory rules.EtaAxiom a b c d rest = refl
-none_of_four theory rules.SelectAxiom a b c d rest = refl
-none_of_four theory rules.Sym a b c d rest = refl
-none_of_four theory (rules.AddAssum p) a b c d rest = refl
-none_of_four theory rules.ProveHyp a b c d rest = refl
-none_of_four theory rules.EqtIntro a b c d rest = refl
-none_of_four theory rules.EqtElim a b c d rest = refl
-none_of_four theory (rules.BetaConv t) a b c d rest = refl
-none_of_four theory rules.Conj a b c d rest = refl
-none_of_four theory rules.Conjunct1 a b c d rest = refl
-none_of_four theory rules.Conjunct2 a b c d rest = refl
-none_of_four theory (rules.Disch p) a b c d rest = refl
-none_of_four theory rules.Undisch a b c d rest = refl
-none_of_four theory rules.Mp a b c d rest = refl
-none_of_four theory (rules.Spec t) a b c d rest = refl
-none_of_four theory (rules.Gen x) a b c d rest = refl
-none_of_four theory (rules.Disj1 q) a b c d rest = refl
-none_of_four theory (rules.Disj2 p) a b c d rest = refl
 none_of_four theory rules.DisjCases a b c d rest = refl
-none_of_four theory (rules.Contr p) a b c d rest = refl
-none_of_four theory rules.NotIntro a b c d rest = refl
-none_of_four theory rules.NotElim a b c d rest = refl
-none_of_four theory (rules.Exists e w) a b c d rest = refl
-none_of_four theory (rules.Choose v) a b c d rest = refl
+none_of_four theory rule a b c d rest = refl
 
 pub too_many : (theory : Theory) (rule : InferenceRule) (premises : List Theorem) (fault : Fault) → 3 < length premises → Infers theory rule premises (Err fault)
 too_many theory rule [] fault many = absurd (omega arith)

@@ -282,7 +282,7 @@ module _ (theory : Theory) (has : HasLogic theory) where
   of_two rule a b first second = search shown depth 10
 
   of_three : (rule : InferenceRule) (a b c : Nameless) → IsKnown theory a bool_type → IsKnown theory b bool_type → IsKnown theory c bool_type → Concludes (infer theory rule (a ∷ b ∷ c ∷ []))
-  of_three rules.DisjCases a b c first second third = search shown depth 10
+  of_three rules.EtaAxiom a b c first second third = none
   of_three rule a b c first second third = search shown depth 10
 
   infer-known : (rule : InferenceRule) (conclusions : List Nameless) → AreFormulas theory conclusions → Concludes (infer theory rule conclusions)
@@ -290,7 +290,7 @@ module _ (theory : Theory) (has : HasLogic theory) where
   infer-known rule (a ∷ []) k = of_one rule a k.0
   infer-known rule (a ∷ b ∷ []) k = of_two rule a b k.0 k.1.0
   infer-known rule (a ∷ b ∷ c ∷ []) k = of_three rule a b c k.0 k.1.0 k.1.1.0
-  infer-known rules.DisjCases (a ∷ b ∷ c ∷ d ∷ more) k = none
+  infer-known rules.EtaAxiom (a ∷ b ∷ c ∷ d ∷ more) k = none
   infer-known rule (a ∷ b ∷ c ∷ d ∷ more) k = none
 
   -- ---- justifications

@@ -83,24 +83,25 @@ module _ (earlier now : Theory) (later : KnowsMore earlier now) where
 
   ruleset keeps = (kept-self, kept-given, kept-required, passed-self, passed-both, passed-all, passed-type, passed-term)
 
+  -- a clause for one rule lets the search go through the others one by one
   kept-by_none : (rule : InferenceRule) → IsKept (infer earlier rule []) (infer now rule [])
   kept-by_none rules.EtaAxiom = search keeps
   kept-by_none rule = search keeps
 
   kept-by_one : (rule : InferenceRule) (a : Nameless) → IsKept (infer earlier rule (a ∷ [])) (infer now rule (a ∷ []))
-  kept-by_one rules.Sym a = search keeps
+  kept-by_one rules.EtaAxiom a = search keeps
   kept-by_one rule a = search keeps
 
   kept-by_two : (rule : InferenceRule) (a b : Nameless) → IsKept (infer earlier rule (a ∷ b ∷ [])) (infer now rule (a ∷ b ∷ []))
-  kept-by_two rules.Trans a b = search keeps
+  kept-by_two rules.EtaAxiom a b = search keeps
   kept-by_two rule a b = search keeps
 
   kept-by_three : (rule : InferenceRule) (a b c : Nameless) → IsKept (infer earlier rule (a ∷ b ∷ c ∷ [])) (infer now rule (a ∷ b ∷ c ∷ []))
-  kept-by_three rules.DisjCases a b c = search keeps
+  kept-by_three rules.EtaAxiom a b c = search keeps
   kept-by_three rule a b c = search keeps
 
   kept-by_more : (rule : InferenceRule) (a b c d : Nameless) (more : List Nameless) → IsKept (infer earlier rule (a ∷ b ∷ c ∷ d ∷ more)) (infer now rule (a ∷ b ∷ c ∷ d ∷ more))
-  kept-by_more rules.DisjCases a b c d more = search keeps
+  kept-by_more rules.EtaAxiom a b c d more = search keeps
   kept-by_more rule a b c d more = search keeps
 
 infer-later : (earlier now : Theory) → KnowsMore earlier now → (rule : InferenceRule) (conclusions : List Nameless) → IsKept (infer earlier rule conclusions) (infer now rule conclusions)

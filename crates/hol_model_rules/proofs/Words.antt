@@ -3,8 +3,7 @@ use Rattle.std.proofs.Common.{◌≡◌, refl, sym, ◌∙◌, ap, List, [], ◌
 use Rattle.std.specs.List.{find}
 use Rattle.std.proofs.lemmas.Slice.Eq.{bytes_eq-Decides}
 use Rattle.hol_model_rules.specs.declared.rule_name.RuleName.{RuleName}
-use Rattle.hol_model_rules.specs.declared.rule_name.RuleName.TheVariants.{Refl, Trans, MkComb, Abs, Beta, Assume, EqMp, DeductAntisym, EtaAxiom, SelectAxiom, Sym, AddAssum, ProveHyp, EqtIntro, EqtElim, BetaConv}
-use Rattle.hol_model_rules.specs.declared.rule_name.RuleName.TheVariants.{Conj, Conjunct1, Conjunct2, Disch, Undisch, Mp, Spec, Gen, Disj1, Disj2, DisjCases, Contr, NotIntro, NotElim, Exists, Choose}
+use Rattle.hol_model_rules.specs.declared.rule_name.RuleName.TheVariants.{Refl}
 use Rattle.hol_model_rules.specs.declared.rule_name.TheConstants.{RULES}
 use Rattle.hol_model_rules.specs.RuleForms.{form_of, has_word, IsRuleOf}
 
@@ -19,37 +18,13 @@ found-passes {X} test (first ∷ xs) x found = by (test first) refl found (λ la
 -- no two rules have one word
 pub own-word : (rule : RuleName) → find (has_word (form_of rule).word) RULES ≡ Some rule
 own-word Refl = refl
-own-word Trans = refl
-own-word MkComb = refl
-own-word Abs = refl
-own-word Beta = refl
-own-word Assume = refl
-own-word EqMp = refl
-own-word DeductAntisym = refl
-own-word EtaAxiom = refl
-own-word SelectAxiom = refl
-own-word Sym = refl
-own-word AddAssum = refl
-own-word ProveHyp = refl
-own-word EqtIntro = refl
-own-word EqtElim = refl
-own-word BetaConv = refl
-own-word Conj = refl
-own-word Conjunct1 = refl
-own-word Conjunct2 = refl
-own-word Disch = refl
-own-word Undisch = refl
-own-word Mp = refl
-own-word Spec = refl
-own-word Gen = refl
-own-word Disj1 = refl
-own-word Disj2 = refl
-own-word DisjCases = refl
-own-word Contr = refl
-own-word NotIntro = refl
-own-word NotElim = refl
-own-word Exists = refl
-own-word Choose = refl
+own-word rule = refl
+
+-- and so two with one word are one
+pub same-word : (a b : RuleName) → (form_of a).word ≡ (form_of b).word → a ≡ b
+same-word a b same =
+    let both : Some a ≡ Some b = sym (own-word a) ∙ ap (λ (word : List ℕ). find (has_word word) RULES) same ∙ own-word b in
+    cc
 
 pub found-word : (word : List ℕ) (found : Option RuleName) → found ≡ find (has_word word) RULES → IsRuleOf word found
 found-word word found is rule = (

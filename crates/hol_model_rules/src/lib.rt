@@ -3,4 +3,4 @@
 
 mod rule_name;
 
-pub use rule_name::RuleName;
+pub use rule_name::{RULES, RuleName};

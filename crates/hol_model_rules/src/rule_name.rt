@@ -41,8 +41,8 @@ pub enum RuleName {
     Choose,
 }
 
-// Every rule.
-const RULES: [RuleName; 32] = [
+/// Every rule.
+pub const RULES: [RuleName; 32] = [
     RuleName::Refl,
     RuleName::Trans,
     RuleName::MkComb,
@@ -118,6 +118,13 @@ impl RuleName {
             RuleName::Exists => ("EXISTS", 2, 1),
             RuleName::Choose => ("CHOOSE", 1, 2),
         }
+    }
+
+    /// The rule's word.
+    pub fn word(self) -> &'static str
+        ensures { result.now ≡ (form_of self).word }
+    {
+        self.form().0
     }
 
     /// The rule of a word.

@@ -7,10 +7,8 @@ use borrow.Author.Count.{below_more}
 use Rattle.hol_model.specs.Terms.Name.{is_capital, is_small, continues_name, all_continue, is_identifier}
 use Rattle.hol_model.specs.declared.symbol.Symbol.{Symbol}
 use Rattle.hol_model.specs.declared.symbol.Symbol.TheVariants.{Backquote}
-use Rattle.std.specs.List.{find}
-use Rattle.hol_model_rules.specs.RuleForms.{form_of, has_word, IsRuleOf}
-use Rattle.hol_model_rules.specs.declared.rule_name.RuleName.TheVariants as names
-use Rattle.hol_model_rules.proofs.Words.{own-word}
+use Rattle.hol_model_rules.specs.RuleForms.{form_of, IsRuleOf}
+use Rattle.hol_model_rules.proofs.Words.{found-word}
 use Rattle.hol_model_rules.specs.declared.rule_name.RuleName.{RuleName}
 use Rattle.hol_model.specs.Texts.Token.{Token, Name, Number, Mark}
 use Rattle.hol_model.specs.Texts.Lexing.{Lexes, IsToken, IsIdentifier, Every, is_name_byte}
@@ -295,20 +293,18 @@ names_of names = map Name (map (λ name. name.now) names)
 
 -- ---- rules
 
--- every rule, as words are looked up among them
-abbrev every_rule : List RuleName
-every_rule =
-    names.Refl ∷ names.Trans ∷ names.MkComb ∷ names.Abs ∷ names.Beta ∷ names.Assume ∷ names.EqMp ∷ names.DeductAntisym ∷ names.EtaAxiom ∷ names.SelectAxiom ∷ names.Sym ∷ names.AddAssum ∷
-    names.ProveHyp ∷ names.EqtIntro ∷ names.EqtElim ∷ names.BetaConv ∷ names.Conj ∷ names.Conjunct1 ∷ names.Conjunct2 ∷ names.Disch ∷ names.Undisch ∷ names.Mp ∷ names.Spec ∷ names.Gen ∷
-    names.Disj1 ∷ names.Disj2 ∷ names.DisjCases ∷ names.Contr ∷ names.NotIntro ∷ names.NotElim ∷ names.Exists ∷ names.Choose ∷ []
+-- no two rules have one word
+same_word : (a b : RuleName) → (form_of a).word ≡ (form_of b).word → a ≡ b
+same_word a b same =
+    let known : IsRuleOf (form_of a).word _ = found-word (form_of a).word _ refl in
+    let both : Some a ≡ Some b = sym ((known a).1 refl) ∙ (known b).1 same in
+    cc
 
 -- what holds of each rule of this name holds of each rule of its word
 named-tree : (fact : RuleTree → Type 0) (rule : RuleName) → ((trees : List TermTree) (names : List (List ℕ)) → fact (by_name rule trees names)) → (tree : RuleTree)
     → rule_word tree ≡ (form_of rule).word → fact tree
 named-tree fact rule named (by_name other trees names) worded =
-    let found : Some other ≡ Some rule = sym (own-word other) ∙ ap (λ (word : List ℕ). find (has_word word) every_rule) worded ∙ own-word rule in
-    let same : rule ≡ other = cc in
-    subst (λ (it : RuleName). fact (by_name it trees names)) same (named trees names)
+    subst (λ (it : RuleName). fact (by_name it trees names)) (same_word rule other (sym worded)) (named trees names)
 named-tree fact rule named (by_inst pairs a) worded = absurd (search (rules, worded))
 named-tree fact rule named (by_inst_type pairs a) worded = absurd (search (rules, worded))
 

@@ -12,12 +12,13 @@ use Rattle.hol_conv.specs.Chains.{proved_by}
 use Rattle.hol_conv.proofs.Sizes.{size, size_of, sizes_of, size_in}
 use Rattle.hol_conv.proofs.Expressions.{then_stands, or_else_stands, then_size, or_else_size, rest-drop}
 use Rattle.hol_conv.proofs.Choosing.{chooses_next, chooses_answer, chooses_stop, chooses_end}
-use Rattle.hol_conv.proofs.Chaining.{chain-later}
+use Rattle.hol_conv.proofs.Chaining.{chain-later, on-side-answers, on-side-equation}
 use Rattle.hol_conv.proofs.Asking.{known-function, known-argument, of-argument, known-later, asks-now, asks-later, still-answers, held-answer}
 use Rattle.hol_conv.proofs.Asking.{side-later, equation-later, carried, carried-answer, continued-twice}
 use Rattle.hol_conv.proofs.Answering.{is-equation, reflects-leaf, first-part-refused, parts-too-deep, rand-refused, rator-refused, abs-refused}
 use Rattle.hol_conv.proofs.Arms.{argument-arm, function-arm, body-arm, parts-arm, try-arm, once-arm, once-answers, once-stops, depth-arm, depth-stops, thenc-on, thenc-off, thenc-equation}
-use Rattle.hol_conv.proofs.Arms.{link-on, link-off, link-stop, link-costs, link-equations, changed-arm, changed-makes, top-start, top-again, top-below, as-conv, sub-as-abs, starved-at}
+use Rattle.hol_conv.proofs.Arms.{first-on, first-off, link-on, link-off, link-stop, link-costs, link-equations, changed-arm, changed-makes, as-conv, sub-as-abs, starved-behind, starved-twice}
+use Rattle.hol_conv.proofs.Arms.{top-refused, top-tried, top-ends, top-on, top-below}
 use Rattle.hol_conv.proofs.converting.Level.«+converted».Goals as goal
 
 pub converted-thenc-requires : goal.converted-thenc-requires
@@ -327,14 +328,36 @@ once_depth_conv-returns-else-not-is_caught-clause-converts g t c =
     once-arm c.or_same.result (ap (with_leaves (g.L.Leaves.means c.args.self.now.leaves.now)) c.requires.whole) c.in-Err.ensures.converts (search rules) c.in-Err.ensures.makes c.sub_conv-made.ensures.converts
     c.sub_conv-made.ensures.makes c.or_same.ensures.tries
 
+pub repeatc-returns-in-Err-clause-converts : goal.repeatc-returns-in-Err-clause-converts
+repeatc-returns-in-Err-clause-converts g t c =
+    (first-off _ c.or_same.result c.requires.asked.known c.in-Err.ensures.converts c.in-Err.ensures.makes.continued c.or_same.ensures.tries).0
+
+pub repeatc-returns-in-Err-clause-last : goal.repeatc-returns-in-Err-clause-last
+repeatc-returns-in-Err-clause-last g t c =
+    (first-off _ c.or_same.result c.requires.asked.known c.in-Err.ensures.converts c.in-Err.ensures.makes.continued c.or_same.ensures.tries).1
+
 pub repeatc-returns-in_err-chain-clause-converts : goal.repeatc-returns-in_err-chain-clause-converts
 repeatc-returns-in_err-chain-clause-converts g t c =
     let p = err_from_is_err_and c.from_residual.result c.from_residual.ensures.1 in
     rw (p.1, p.2)
-    (starved-at c.args.fuel.now.left c.in_err-chain.ensures.err)
+    (starved-behind c.args.library.now (Ok c.in-Ok.made) c.in-Ok.ensures.converts c.in_err-chain.ensures.err)
 
-pub repeatc-converted-made-requires : goal.repeatc-converted-made-requires
-repeatc-converted-made-requires g t c =
+pub repeatc-begin_by-requires-clause-equation : goal.repeatc-begin_by-requires-clause-equation
+repeatc-begin_by-requires-clause-equation g t c =
+    link-equations (Ok c.in-Ok.made) c.in-Ok.ensures.makes.continued c.in-Ok.ensures.converts
+
+pub repeatc-loop-chain-init : goal.repeatc-loop-chain-init
+repeatc-loop-chain-init g t c =
+    let makes = c.in-Ok.ensures.makes in
+    let begun = c.in_ok-chain.ensures in (
+      first-on c.in-Ok.made c.in_ok-chain.chain c.in-Ok.ensures.converts makes.continued begun.extends,
+      continued-twice makes.continued begun.continued,
+      begun.library,
+      begun.chain,
+    )
+
+pub repeatc-converted-next-requires : goal.repeatc-converted-next-requires
+repeatc-converted-next-requires g t c =
     let asked = asks-now c.loop-chain.chain.current
     (g.met.L.Leaves.stays_ready c.args.self.now.leaves.now) c.requires.asked c.loop-chain.invariant.1 c.loop-chain.invariant.2
     c.loop-chain.invariant.3.held.known in
@@ -342,49 +365,128 @@ repeatc-converted-made-requires g t c =
 
 pub repeatc-link-requires-clause-chain : goal.repeatc-link-requires-clause-chain
 repeatc-link-requires-clause-chain g t c =
-    chain-later c.converted-made.ensures.makes.continued c.loop-chain.invariant.3
+    chain-later c.converted-next.ensures.makes.continued c.loop-chain.invariant.3
 
 pub repeatc-link-requires-clause-equation : goal.repeatc-link-requires-clause-equation
 repeatc-link-requires-clause-equation g t c =
-    link-equations c.converted-made.result c.converted-made.ensures.makes.continued c.converted-made.ensures.converts
+    link-equations c.converted-next.result c.converted-next.ensures.makes.continued c.converted-next.ensures.converts
 
 pub repeatc-returns-in-Ends-clause-converts : goal.repeatc-returns-in-Ends-clause-converts
 repeatc-returns-in-Ends-clause-converts g t c =
     let so_far = joined_defined _ _ _ _ refl c.loop-chain.invariant.0 in
     (link-off c.loop-chain.chain _ c.in-Ends.result so_far c.loop-chain.invariant.1 c.loop-chain.invariant.3.held.known
-    c.converted-made.ensures.converts c.converted-made.ensures.makes c.in-Ends.ensures.links).0
+    c.converted-next.ensures.converts c.converted-next.ensures.makes c.in-Ends.ensures.links).0
 
 pub repeatc-returns-in-Ends-clause-last : goal.repeatc-returns-in-Ends-clause-last
 repeatc-returns-in-Ends-clause-last g t c =
     let so_far = joined_defined _ _ _ _ refl c.loop-chain.invariant.0 in
     (link-off c.loop-chain.chain _ c.in-Ends.result so_far c.loop-chain.invariant.1 c.loop-chain.invariant.3.held.known
-    c.converted-made.ensures.converts c.converted-made.ensures.makes c.in-Ends.ensures.links).1
+    c.converted-next.ensures.converts c.converted-next.ensures.makes c.in-Ends.ensures.links).1
 
 pub repeatc-loop-chain-smaller : goal.repeatc-loop-chain-smaller
 repeatc-loop-chain-smaller g t c =
-    link-costs c.converted-made.new.library.recorder.theory
-    (proved_by c.converted-made.new.library.recorder.theory c.loop-chain.chain) c.args.t.now _ c.converted-made.result c.in-GoesOn.chain
-    c.converted-made.ensures.converts c.in-GoesOn.ensures.links
+    link-costs c.converted-next.new.library.recorder.theory
+    (proved_by c.converted-next.new.library.recorder.theory c.loop-chain.chain) c.args.t.now _ c.converted-next.result c.in-GoesOn.chain
+    c.converted-next.ensures.converts c.in-GoesOn.ensures.links
 
 pub repeatc-loop-chain-preserved : goal.repeatc-loop-chain-preserved
 repeatc-loop-chain-preserved g t c =
     let so_far = joined_tried _ _ _ _ (joined_defined _ _ _ _ refl c.loop-chain.invariant.0) in
-    let makes = c.converted-made.ensures.makes in
+    let makes = c.converted-next.ensures.makes in
     let goes = c.in-GoesOn.ensures in (
-      link-on c.loop-chain.chain _ c.in-GoesOn.chain so_far c.loop-chain.invariant.1 c.converted-made.ensures.converts makes goes.links,
+      link-on c.loop-chain.chain _ c.in-GoesOn.chain so_far c.loop-chain.invariant.1 c.converted-next.ensures.converts makes goes.links,
       continued-twice c.loop-chain.invariant.1 (continued-twice makes.continued goes.continued),
       goes.library,
       goes.made,
     )
 
-pub top_depth_conv-returns-in_err-chain-clause-converts : goal.top_depth_conv-returns-in_err-chain-clause-converts
-top_depth_conv-returns-in_err-chain-clause-converts g t c =
+pub top_depth_conv-repeatc-requires : goal.top_depth_conv-repeatc-requires
+top_depth_conv-repeatc-requires g t c =
+    let sized = ap size c.requires.whole in
+    search rules
+
+pub top_depth_conv-returns-in_err-begun-clause-converts : goal.top_depth_conv-returns-in_err-begun-clause-converts
+top_depth_conv-returns-in_err-begun-clause-converts g t c =
     let p = err_from_is_err_and c.from_residual.result c.from_residual.ensures.1 in
     rw (p.1, p.2)
-    (starved-at c.args.fuel.now.left c.in_err-chain.ensures.err)
+    (top-refused (ap (with_leaves (g.L.Leaves.means c.args.self.now.leaves.now)) c.requires.whole) c.in_err-begun.ensures.converts)
 
-pub top_depth_conv-repeatc-here-requires : goal.top_depth_conv-repeatc-here-requires
-top_depth_conv-repeatc-here-requires g t c =
+pub top_depth_conv-right_of-right-requires : goal.top_depth_conv-right_of-right-requires
+top_depth_conv-right_of-right-requires g t c =
+    let begun = c.in_ok-begun.ensures.makes in
+    record {
+      known = known-later c.args.t.now begun.continued c.requires.asked.known;
+      answer = begun.made;
+      equation = equation-later c.args.t.now c.in_ok-begun.begun begun.continued (is-equation _ _ _ c.in_ok-begun.ensures.converts);
+    }
+
+pub top_depth_conv-sub_conv-under-requires : goal.top_depth_conv-sub_conv-under-requires
+top_depth_conv-sub_conv-under-requires g t c =
+    let begun = c.in_ok-begun.ensures.makes in
+    let asked = asks-now c.right_of-right.result.now (g.met.L.Leaves.stays_ready c.args.self.now.leaves.now) c.requires.asked begun.continued begun.library c.right_of-right.ensures.known in
+    search rules
+
+pub top_depth_conv-then-requires : goal.top_depth_conv-then-requires
+top_depth_conv-then-requires g t c =
+    let last = top-tried c.or_same-last.result (ap (with_leaves (g.L.Leaves.means c.args.self.now.leaves.now)) c.requires.whole) c.sub_conv-under.ensures.converts
+    c.sub_conv-under.ensures.makes (c.in-Err.ensures.changed _) c.or_same-last.ensures.tries in
+    let begun = c.in_ok-begun.ensures.makes in
+    let under = c.sub_conv-under.ensures.makes in
+    record {
+      library = under.library;
+      known = known-later c.args.t.now (continued-twice begun.continued under.continued) c.requires.asked.known;
+      right = known-later c.right_of-right.result.now under.continued c.right_of-right.ensures.known;
+      side = side-later c.args.t.now c.in_ok-begun.begun under.continued c.right_of-right.ensures.right;
+      first = still-answers c.args.t.now c.in_ok-begun.begun under.continued begun.made;
+      next = c.or_same-last.ensures.makes.made;
+      equation = link-equations c.or_same-last.result under.continued last;
+    }
+
+pub top_depth_conv-returns-in-Err-clause-converts : goal.top_depth_conv-returns-in-Err-clause-converts
+top_depth_conv-returns-in-Err-clause-converts g t c =
+    let last = top-tried c.or_same-last.result (ap (with_leaves (g.L.Leaves.means c.args.self.now.leaves.now)) c.requires.whole) c.sub_conv-under.ensures.converts
+    c.sub_conv-under.ensures.makes (c.in-Err.ensures.changed _) c.or_same-last.ensures.tries in
+    top-ends c.or_same-last.result c.then.result (ap (with_leaves (g.L.Leaves.means c.args.self.now.leaves.now)) c.requires.whole) c.in_ok-begun.ensures.converts c.in_ok-begun.ensures.makes
+    c.right_of-right.ensures.right last c.sub_conv-under.ensures.makes.continued c.then.ensures.joins
+
+pub top_depth_conv-begin_twice-requires : goal.top_depth_conv-begin_twice-requires
+top_depth_conv-begin_twice-requires g t c =
+    let begun = c.in_ok-begun.ensures.makes in
+    let under = c.sub_conv-under.ensures.makes in
+    let below = changed-arm c.sub_conv-under.result (Ok c.in-Ok.found) c.sub_conv-under.ensures.converts (c.in-Ok.ensures.changed _) in
+    let found = changed-makes c.sub_conv-under.result (Ok c.in-Ok.found) under c.in-Ok.ensures.same in
+    record {
+      library = under.library;
+      known = known-later c.args.t.now (continued-twice begun.continued under.continued) c.requires.asked.known;
+      first = still-answers c.args.t.now c.in_ok-begun.begun under.continued begun.made;
+      equation = link-equations (Ok c.in_ok-begun.begun) (continued-twice begun.continued under.continued) c.in_ok-begun.ensures.converts;
+      second = on-side-answers c.args.t.now c.in_ok-begun.begun c.in-Ok.found under.continued c.right_of-right.ensures.right found.made;
+      next = on-side-equation c.args.t.now c.in_ok-begun.begun c.in-Ok.found under.continued c.right_of-right.ensures.right
+          (link-equations (Ok c.in-Ok.found) under.continued below);
+    }
+
+pub top_depth_conv-returns-in_err-chain-clause-converts : goal.top_depth_conv-returns-in_err-chain-clause-converts
+top_depth_conv-returns-in_err-chain-clause-converts g t c =
+    let p = err_from_is_err_and c.from_residual-in_err-chain.result c.from_residual-in_err-chain.ensures.1 in
+    rw (p.1, p.2)
+    (starved-twice (Ok c.in_ok-begun.begun) c.sub_conv-under.result c.in_ok-begun.ensures.makes.continued
+    c.in_ok-begun.ensures.converts c.sub_conv-under.ensures.converts c.in_err-chain.ensures.err)
+
+pub top_depth_conv-loop-chain-init : goal.top_depth_conv-loop-chain-init
+top_depth_conv-loop-chain-init g t c =
+    let begun = c.in_ok-begun.ensures.makes in
+    let under = c.sub_conv-under.ensures.makes in
+    let side = side-later c.args.t.now c.in_ok-begun.begun under.continued c.right_of-right.ensures.right in
+    let twice = c.in_ok-chain.ensures in (
+      top-on c.sub_conv-under.result c.in-Ok.found c.in_ok-chain.chain (ap (with_leaves (g.L.Leaves.means c.args.self.now.leaves.now)) c.requires.whole) c.in_ok-begun.ensures.converts begun
+          c.right_of-right.ensures.right c.sub_conv-under.ensures.converts (c.in-Ok.ensures.changed _) under.continued (twice.extends _ side),
+      continued-twice (continued-twice begun.continued under.continued) twice.continued,
+      twice.library,
+      twice.chain,
+    )
+
+pub top_depth_conv-converted-again-requires : goal.top_depth_conv-converted-again-requires
+top_depth_conv-converted-again-requires g t c =
     let asked = asks-now c.loop-chain.chain.current
     (g.met.L.Leaves.stays_ready c.args.self.now.leaves.now) c.requires.asked c.loop-chain.invariant.1 c.loop-chain.invariant.2
     c.loop-chain.invariant.3.held.known in
@@ -393,122 +495,118 @@ top_depth_conv-repeatc-here-requires g t c =
 
 pub top_depth_conv-link-requires-clause-chain : goal.top_depth_conv-link-requires-clause-chain
 top_depth_conv-link-requires-clause-chain g t c =
-    chain-later c.repeatc-here.ensures.makes.continued c.loop-chain.invariant.3
+    chain-later c.converted-again.ensures.makes.continued c.loop-chain.invariant.3
 
 pub top_depth_conv-link-requires-clause-equation : goal.top_depth_conv-link-requires-clause-equation
 top_depth_conv-link-requires-clause-equation g t c =
-    link-equations c.repeatc-here.result c.repeatc-here.ensures.makes.continued c.repeatc-here.ensures.converts
+    link-equations c.converted-again.result c.converted-again.ensures.makes.continued c.converted-again.ensures.converts
 
 pub top_depth_conv-returns-in-Ends-clause-converts : goal.top_depth_conv-returns-in-Ends-clause-converts
 top_depth_conv-returns-in-Ends-clause-converts g t c =
-    let so_far = top-start (ap (with_leaves (g.L.Leaves.means c.args.self.now.leaves.now)) c.requires.whole) c.loop-chain.invariant.0 in
-    (link-stop c.loop-chain.chain _ c.in-Ends.result so_far c.loop-chain.invariant.1 c.repeatc-here.ensures.converts c.repeatc-here.ensures.makes c.repeatc-here.ensures.last c.in-Ends.ensures.links).0
+    let so_far = joined_defined _ _ _ _ refl c.loop-chain.invariant.0 in
+    (link-off c.loop-chain.chain _ c.in-Ends.result so_far c.loop-chain.invariant.1 c.loop-chain.invariant.3.held.known
+    c.converted-again.ensures.converts c.converted-again.ensures.makes c.in-Ends.ensures.links).0
 
-pub top_depth_conv-sub_conv-below-requires : goal.top_depth_conv-sub_conv-below-requires
-top_depth_conv-sub_conv-below-requires g t c =
-    let before = continued-twice c.loop-chain.invariant.1 (continued-twice c.repeatc-here.ensures.makes.continued c.in-GoesOn.ensures.continued) in
+pub top_depth_conv-repeatc-here-requires : goal.top_depth_conv-repeatc-here-requires
+top_depth_conv-repeatc-here-requires g t c =
+    let before = continued-twice c.loop-chain.invariant.1 (continued-twice c.converted-again.ensures.makes.continued c.in-GoesOn.ensures.continued) in
     let asked = asks-now c.in-GoesOn.chain.current (g.met.L.Leaves.stays_ready c.args.self.now.leaves.now) c.requires.asked before c.in-GoesOn.ensures.library c.in-GoesOn.ensures.made.held.known in
+    let sized = ap size c.requires.whole in
     search rules
 
 pub top_depth_conv-link-requires-in-loop-chain-clause-chain : goal.top_depth_conv-link-requires-in-loop-chain-clause-chain
 top_depth_conv-link-requires-in-loop-chain-clause-chain g t c =
-    chain-later c.sub_conv-below.ensures.makes.continued c.in-GoesOn.ensures.made
+    chain-later c.repeatc-here.ensures.makes.continued c.in-GoesOn.ensures.made
 
 pub top_depth_conv-link-requires-in-loop-chain-clause-equation : goal.top_depth_conv-link-requires-in-loop-chain-clause-equation
 top_depth_conv-link-requires-in-loop-chain-clause-equation g t c =
-    let below = changed-arm c.sub_conv-below.result c.changed-below.result c.sub_conv-below.ensures.converts (c.changed-below.ensures.changed _) in
-    link-equations c.changed-below.result c.sub_conv-below.ensures.makes.continued below
+    link-equations c.repeatc-here.result c.repeatc-here.ensures.makes.continued c.repeatc-here.ensures.converts
 
 pub top_depth_conv-returns-in-Ends-link-clause-converts : goal.top_depth_conv-returns-in-Ends-link-clause-converts
 top_depth_conv-returns-in-Ends-link-clause-converts g t c =
-    let so_far = top-start (ap (with_leaves (g.L.Leaves.means c.args.self.now.leaves.now)) c.requires.whole) c.loop-chain.invariant.0 in
-    let before = continued-twice c.loop-chain.invariant.1 (continued-twice c.repeatc-here.ensures.makes.continued c.in-GoesOn.ensures.continued) in
+    let so_far = joined_defined _ _ _ _ refl c.loop-chain.invariant.0 in
+    let before = continued-twice c.loop-chain.invariant.1 (continued-twice c.converted-again.ensures.makes.continued c.in-GoesOn.ensures.continued) in
     let so_far = joined_defined _ _ _ _ refl
-    (link-on c.loop-chain.chain _ c.in-GoesOn.chain so_far c.loop-chain.invariant.1 c.repeatc-here.ensures.converts c.repeatc-here.ensures.makes
-    c.in-GoesOn.ensures.links) in
-    let below = changed-arm c.sub_conv-below.result c.changed-below.result
-    (top-below c.sub_conv-below.result
-    (ap (with_leaves (g.L.Leaves.means c.args.self.now.leaves.now)) c.requires.whole) c.sub_conv-below.ensures.converts)
-    (c.changed-below.ensures.changed _) in
-    let makes = changed-makes c.sub_conv-below.result c.changed-below.result c.sub_conv-below.ensures.makes c.changed-below.ensures.same in
-    (link-off c.in-GoesOn.chain _ c.in-Ends-link.result so_far before c.in-GoesOn.ensures.made.held.known below makes c.in-Ends-link.ensures.links).0
+    (link-on c.loop-chain.chain _ c.in-GoesOn.chain (joined_tried _ _ _ _ so_far) c.loop-chain.invariant.1 c.converted-again.ensures.converts
+    c.converted-again.ensures.makes c.in-GoesOn.ensures.links) in
+    (link-stop c.in-GoesOn.chain _ c.in-Ends-link.result so_far before c.repeatc-here.ensures.converts c.repeatc-here.ensures.makes c.repeatc-here.ensures.last
+    c.in-Ends-link.ensures.links).0
 
-pub top_depth_conv-converted-again-requires : goal.top_depth_conv-converted-again-requires
-top_depth_conv-converted-again-requires g t c =
-    let before = continued-twice c.loop-chain.invariant.1 (continued-twice c.repeatc-here.ensures.makes.continued c.in-GoesOn.ensures.continued) in
-    let before = continued-twice before (continued-twice c.sub_conv-below.ensures.makes.continued c.in-GoesOn-link.ensures.continued) in
+pub top_depth_conv-sub_conv-below-requires : goal.top_depth_conv-sub_conv-below-requires
+top_depth_conv-sub_conv-below-requires g t c =
+    let before = continued-twice c.loop-chain.invariant.1 (continued-twice c.converted-again.ensures.makes.continued c.in-GoesOn.ensures.continued) in
+    let before = continued-twice before (continued-twice c.repeatc-here.ensures.makes.continued c.in-GoesOn-link.ensures.continued) in
     let asked = asks-now c.in-GoesOn-link.chain.current
     (g.met.L.Leaves.stays_ready c.args.self.now.leaves.now) c.requires.asked before c.in-GoesOn-link.ensures.library
     c.in-GoesOn-link.ensures.made.held.known in
-    let sized = ap size c.requires.whole in
     search rules
 
 pub top_depth_conv-link-requires-in-loop-chain-2-clause-chain : goal.top_depth_conv-link-requires-in-loop-chain-2-clause-chain
 top_depth_conv-link-requires-in-loop-chain-2-clause-chain g t c =
-    chain-later c.converted-again.ensures.makes.continued c.in-GoesOn-link.ensures.made
+    chain-later c.sub_conv-below.ensures.makes.continued c.in-GoesOn-link.ensures.made
 
 pub top_depth_conv-link-requires-in-loop-chain-2-clause-equation : goal.top_depth_conv-link-requires-in-loop-chain-2-clause-equation
 top_depth_conv-link-requires-in-loop-chain-2-clause-equation g t c =
-    link-equations c.converted-again.result c.converted-again.ensures.makes.continued c.converted-again.ensures.converts
+    let below = changed-arm c.sub_conv-below.result c.changed-below.result c.sub_conv-below.ensures.converts (c.changed-below.ensures.changed _) in
+    link-equations c.changed-below.result c.sub_conv-below.ensures.makes.continued below
 
 pub top_depth_conv-returns-in-Ends-link-2-clause-converts : goal.top_depth_conv-returns-in-Ends-link-2-clause-converts
 top_depth_conv-returns-in-Ends-link-2-clause-converts g t c =
-    let so_far = top-start (ap (with_leaves (g.L.Leaves.means c.args.self.now.leaves.now)) c.requires.whole) c.loop-chain.invariant.0 in
-    let before = continued-twice c.loop-chain.invariant.1 (continued-twice c.repeatc-here.ensures.makes.continued c.in-GoesOn.ensures.continued) in
+    let so_far = joined_defined _ _ _ _ refl c.loop-chain.invariant.0 in
+    let before = continued-twice c.loop-chain.invariant.1 (continued-twice c.converted-again.ensures.makes.continued c.in-GoesOn.ensures.continued) in
     let so_far = joined_defined _ _ _ _ refl
-    (link-on c.loop-chain.chain _ c.in-GoesOn.chain so_far c.loop-chain.invariant.1 c.repeatc-here.ensures.converts c.repeatc-here.ensures.makes
-    c.in-GoesOn.ensures.links) in
+    (link-on c.loop-chain.chain _ c.in-GoesOn.chain (joined_tried _ _ _ _ so_far) c.loop-chain.invariant.1 c.converted-again.ensures.converts
+    c.converted-again.ensures.makes c.in-GoesOn.ensures.links) in
+    let so_far = joined_defined _ _ _ _ refl
+    (link-on c.in-GoesOn.chain _ c.in-GoesOn-link.chain so_far before c.repeatc-here.ensures.converts
+    c.repeatc-here.ensures.makes c.in-GoesOn-link.ensures.links) in
+    let before = continued-twice before (continued-twice c.repeatc-here.ensures.makes.continued c.in-GoesOn-link.ensures.continued) in
     let below = changed-arm c.sub_conv-below.result c.changed-below.result
-    (top-below c.sub_conv-below.result
-    (ap (with_leaves (g.L.Leaves.means c.args.self.now.leaves.now)) c.requires.whole) c.sub_conv-below.ensures.converts)
+    (top-below c.sub_conv-below.result (ap (with_leaves (g.L.Leaves.means c.args.self.now.leaves.now)) c.requires.whole) c.sub_conv-below.ensures.converts)
     (c.changed-below.ensures.changed _) in
     let makes = changed-makes c.sub_conv-below.result c.changed-below.result c.sub_conv-below.ensures.makes c.changed-below.ensures.same in
-    let so_far = joined_defined _ _ _ _ refl (link-on c.in-GoesOn.chain _ c.in-GoesOn-link.chain (joined_tried _ _ _ _ so_far) before below makes c.in-GoesOn-link.ensures.links) in
-    let before = continued-twice before (continued-twice makes.continued c.in-GoesOn-link.ensures.continued) in
     (link-off c.in-GoesOn-link.chain _ c.in-Ends-link-2.result so_far before c.in-GoesOn-link.ensures.made.held.known
-    c.converted-again.ensures.converts c.converted-again.ensures.makes c.in-Ends-link-2.ensures.links).0
+    below makes c.in-Ends-link-2.ensures.links).0
 
 pub top_depth_conv-returns-in-Ends-link-2-clause-makes : goal.top_depth_conv-returns-in-Ends-link-2-clause-makes
 top_depth_conv-returns-in-Ends-link-2-clause-makes g t c =
-    let before = continued-twice c.loop-chain.invariant.1 (continued-twice c.repeatc-here.ensures.makes.continued c.in-GoesOn.ensures.continued) in
-    let before = continued-twice before (continued-twice c.sub_conv-below.ensures.makes.continued c.in-GoesOn-link.ensures.continued) in
+    let before = continued-twice c.loop-chain.invariant.1 (continued-twice c.converted-again.ensures.makes.continued c.in-GoesOn.ensures.continued) in
+    let before = continued-twice before (continued-twice c.repeatc-here.ensures.makes.continued c.in-GoesOn-link.ensures.continued) in
     let ends = c.in-Ends-link-2.ensures in
-    record { library = ends.library; continued = continued-twice before (continued-twice c.converted-again.ensures.makes.continued ends.continued); made = ends.made }
+    record { library = ends.library; continued = continued-twice before (continued-twice c.sub_conv-below.ensures.makes.continued ends.continued); made = ends.made }
 
 pub top_depth_conv-loop-chain-smaller : goal.top_depth_conv-loop-chain-smaller
 top_depth_conv-loop-chain-smaller g t c =
-    let first = link-costs c.repeatc-here.new.library.recorder.theory
-    (proved_by c.repeatc-here.new.library.recorder.theory c.loop-chain.chain) c.args.t.now _ c.repeatc-here.result c.in-GoesOn.chain
-    c.repeatc-here.ensures.converts c.in-GoesOn.ensures.links in
+    let first = link-costs c.converted-again.new.library.recorder.theory
+    (proved_by c.converted-again.new.library.recorder.theory c.loop-chain.chain) c.args.t.now _ c.converted-again.result
+    c.in-GoesOn.chain c.converted-again.ensures.converts c.in-GoesOn.ensures.links in
+    let second = link-costs c.repeatc-here.new.library.recorder.theory
+    (proved_by c.repeatc-here.new.library.recorder.theory c.in-GoesOn.chain) c.args.t.now _ c.repeatc-here.result c.in-GoesOn-link.chain
+    c.repeatc-here.ensures.converts c.in-GoesOn-link.ensures.links in
     let below = changed-arm c.sub_conv-below.result c.changed-below.result c.sub_conv-below.ensures.converts (c.changed-below.ensures.changed _) in
-    let second = link-costs c.sub_conv-below.new.library.recorder.theory
-    (proved_by c.sub_conv-below.new.library.recorder.theory c.in-GoesOn.chain) c.args.t.now _ c.changed-below.result c.in-GoesOn-link.chain below
-    c.in-GoesOn-link.ensures.links in
-    let third = link-costs c.converted-again.new.library.recorder.theory
-    (proved_by c.converted-again.new.library.recorder.theory c.in-GoesOn-link.chain) c.args.t.now _ c.converted-again.result
-    c.in-GoesOn-link-2.chain c.converted-again.ensures.converts c.in-GoesOn-link-2.ensures.links in
+    let third = link-costs c.sub_conv-below.new.library.recorder.theory
+    (proved_by c.sub_conv-below.new.library.recorder.theory c.in-GoesOn-link.chain) c.args.t.now _ c.changed-below.result c.in-GoesOn-link-2.chain below
+    c.in-GoesOn-link-2.ensures.links in
     omega (arith, first, second, third)
 
 pub top_depth_conv-loop-chain-preserved : goal.top_depth_conv-loop-chain-preserved
 top_depth_conv-loop-chain-preserved g t c =
-    let so_far = top-start (ap (with_leaves (g.L.Leaves.means c.args.self.now.leaves.now)) c.requires.whole) c.loop-chain.invariant.0 in
-    let before = continued-twice c.loop-chain.invariant.1 (continued-twice c.repeatc-here.ensures.makes.continued c.in-GoesOn.ensures.continued) in
+    let so_far = joined_defined _ _ _ _ refl c.loop-chain.invariant.0 in
+    let before = continued-twice c.loop-chain.invariant.1 (continued-twice c.converted-again.ensures.makes.continued c.in-GoesOn.ensures.continued) in
     let so_far = joined_defined _ _ _ _ refl
-    (link-on c.loop-chain.chain _ c.in-GoesOn.chain so_far c.loop-chain.invariant.1 c.repeatc-here.ensures.converts c.repeatc-here.ensures.makes
-    c.in-GoesOn.ensures.links) in
+    (link-on c.loop-chain.chain _ c.in-GoesOn.chain (joined_tried _ _ _ _ so_far) c.loop-chain.invariant.1 c.converted-again.ensures.converts
+    c.converted-again.ensures.makes c.in-GoesOn.ensures.links) in
+    let so_far = joined_defined _ _ _ _ refl
+    (link-on c.in-GoesOn.chain _ c.in-GoesOn-link.chain so_far before c.repeatc-here.ensures.converts
+    c.repeatc-here.ensures.makes c.in-GoesOn-link.ensures.links) in
+    let before = continued-twice before (continued-twice c.repeatc-here.ensures.makes.continued c.in-GoesOn-link.ensures.continued) in
     let below = changed-arm c.sub_conv-below.result c.changed-below.result
-    (top-below c.sub_conv-below.result
-    (ap (with_leaves (g.L.Leaves.means c.args.self.now.leaves.now)) c.requires.whole) c.sub_conv-below.ensures.converts)
+    (top-below c.sub_conv-below.result (ap (with_leaves (g.L.Leaves.means c.args.self.now.leaves.now)) c.requires.whole) c.sub_conv-below.ensures.converts)
     (c.changed-below.ensures.changed _) in
     let makes = changed-makes c.sub_conv-below.result c.changed-below.result c.sub_conv-below.ensures.makes c.changed-below.ensures.same in
-    let so_far = joined_defined _ _ _ _ refl (link-on c.in-GoesOn.chain _ c.in-GoesOn-link.chain (joined_tried _ _ _ _ so_far) before below makes c.in-GoesOn-link.ensures.links) in
-    let before = continued-twice before (continued-twice makes.continued c.in-GoesOn-link.ensures.continued) in
-    let again = c.converted-again.ensures.makes in
     let goes = c.in-GoesOn-link-2.ensures in (
-      top-again (ap (with_leaves (g.L.Leaves.means c.args.self.now.leaves.now)) c.requires.whole)
-          (link-on c.in-GoesOn-link.chain _ c.in-GoesOn-link-2.chain
-          (joined_tried _ _ _ _ so_far) before c.converted-again.ensures.converts again goes.links),
-      continued-twice before (continued-twice again.continued goes.continued),
+      link-on c.in-GoesOn-link.chain _ c.in-GoesOn-link-2.chain (joined_tried _ _ _ _ so_far) before below makes goes.links,
+      continued-twice before (continued-twice c.sub_conv-below.ensures.makes.continued goes.continued),
       goes.library,
       goes.made,
     )

@@ -1,7 +1,7 @@
 use Rattle.std.proofs.Common.{◌+◌, ◌*◌, ◌-◌, drop, IsSome}
 use Rattle.hol_model.specs.declared.limits.TheConstants.{DESCENTS_LIMIT}
 use Rattle.hol_model.specs.Kernel.Rules.{dest_equation}
-use Rattle.hol_model.specs.Refining.Conversions.{repeatc}
+use Rattle.hol_model.specs.Refining.Conversions.{repeatc, thenc, one_more, try_conv, top_depth_conv}
 use Rattle.hol_laws_refiners.proofs.Chains.{ThencSoFar}
 use Rattle.hol_laws_refiners.proofs.Repeating.{JoinedSoFar}
 use Rattle.hol_theorem_library.specs.Library.{IsLibrary, IsContinued, store_in}
@@ -84,7 +84,8 @@ decreases-repeatc-loop-chain g l = l.fuel.left
 abbrev pub invariant-top_depth_conv-loop-chain : goal.invariant-top_depth_conv-loop-chain
 invariant-top_depth_conv-loop-chain g l =
     JoinedSoFar l.fn.library.recorder.theory (store_in l.fn.library) (g.L.Leaves.hosts l.self.leaves.now) l.self.depth
-    l.fn.fuel.left (stands_for (g.L.Leaves.means l.self.leaves.now) l.whole) l.t l.fuel.left (stands_for (g.L.Leaves.means l.self.leaves.now) l.whole)
+    l.fn.fuel.left (stands_for (g.L.Leaves.means l.self.leaves.now) l.whole) l.t l.fuel.left
+    (try_conv (thenc (stands_for (g.L.Leaves.means l.self.leaves.now) l.part) (one_more (top_depth_conv (stands_for (g.L.Leaves.means l.self.leaves.now) l.part)))))
     (proved_by l.fn.library.recorder.theory l.chain) l.chain.current
     × IsContinued l.fn.library l.library
     × IsLibrary l.library
