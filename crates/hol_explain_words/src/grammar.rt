@@ -200,8 +200,18 @@ end_of_term #end";
 // What is wanted behind a rule, by the number of its terms and of its theorems.
 const ARGUMENTS: [[&str; 4]; 3] = [
     ["", "stored", "stored stored", "stored stored stored"],
-    ["quote", "quote stored", "quote stored stored", "quote stored stored stored"],
-    ["quote quote", "quote quote stored", "quote quote stored stored", "quote quote stored stored stored"],
+    [
+        "quote",
+        "quote stored",
+        "quote stored stored",
+        "quote stored stored stored",
+    ],
+    [
+        "quote quote",
+        "quote quote stored",
+        "quote quote stored stored",
+        "quote quote stored stored stored",
+    ],
 ];
 
 // The symbols behind a symbol and a word, where the grammar has such a line.

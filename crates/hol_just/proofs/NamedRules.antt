@@ -11,7 +11,9 @@ use Rattle.hol_model_rules.specs.RuleOutcomes.{rule_with}
 -- there is a rule for the number of terms that its form tells
 has-rule : (rule : RuleName) (terms : List NamedTerm) → length terms ≡ (form_of rule).terms → None ≡ rule_with rule terms → ⊥
 has-rule Exists (t ∷ u ∷ []) same none = cc
-has-rule rule terms same none = cc
+has-rule rule [] same none = cc
+has-rule rule (t ∷ []) same none = cc
+has-rule rule (t ∷ u ∷ rest) same none = cc
 
 pub takes_terms : (name : RuleName) (terms : List NamedTerm) (result : Option InferenceRule) → result ≡ rule_with name terms → length terms ≡ (form_of name).terms → IsSome result
 takes_terms name terms (Some rule) is same = refl
