@@ -76,7 +76,7 @@ passing test None passed = cc
 passing test (Some pattern) passed = (pattern, refl, passed)
 
 pub candidates_are : (tree : Tree) (patterns : List NamedTerm) (term : NamedTerm) (nodes places sorted rest : List ℕ) → IsNet tree patterns
-    → nodes ≡ nodes_after (steps_of tree) (symbols_of tree) (0 ∷ []) term → places ≡ all_places tree.ends.items nodes
+    → nodes ≡ nodes_after (steps_of tree) (symbols_of tree) 0 term → places ≡ all_places tree.ends.items nodes
     → IsPermutation places sorted → IsSorted nat_cmp sorted → IsFiltered (DiffersFromLast eqb) [] sorted rest
     → filter (passes (λ pattern. fits pattern term) patterns) rest ≡ places_where (λ pattern. fits pattern term) patterns
 candidates_are tree patterns term nodes places sorted rest net reached collected permuted ordered filtered =
@@ -95,7 +95,7 @@ candidates_are tree patterns term nodes places sorted rest net reached collected
     complete : (n : ℕ) → (pattern : NamedTerm) × (slice_get patterns n ≡ Some pattern) × (fits pattern term ≡ true) → IsMember n rest
     complete n known =
         let ends = net.holds.each n known.0 known.1 in
-        let at : IsMember ends.node nodes = rw reached (node_found (steps_of tree) (symbols_of tree) known.0 term (0 ∷ []) 0 ends.node (inl refl) known.2 ends.leads) in
+        let at : IsMember ends.node nodes = rw reached (node_found (steps_of tree) (symbols_of tree) known.0 term 0 ends.node known.2 ends.leads) in
         found n (rw collected (place_found tree.ends.items nodes ends.node n at ends.ends))
 
 -- what was kept of the places is what was wanted

@@ -1,6 +1,7 @@
 -- A discrimination tree: edges from node to node, which a pattern's symbols lead along, and the patterns that end at a node.
 use Rattle.std.specs.Prelude.{◌≡◌, ℕ, zero, suc, ◌<◌, ◌≤◌, List, [], ◌∷◌, ◌++◌, Bool, true, false, ◌&&◌, Option, Some, None, length, slice_get, nat_eq}
-use Rattle.std.specs.Option.{option_and_then, option_map}
+use Rattle.std.specs.List.{flat_map}
+use Rattle.std.specs.Option.{option_and_then, option_map, option_map_or}
 use Rattle.std.specs.declared.alloc.Global.{Global}
 use Rattle.std.specs.declared.vec.Vec.{Vec}
 use Rattle.indexmap.specs.IndexMap.{get_by, get_by_text}
@@ -33,22 +34,19 @@ abbrev pub step_by : Steps → ℕ → Option Symbol → Option ℕ
 step_by steps from None = None
 step_by steps from (Some symbol) = steps from symbol
 
-abbrev pub with_node : Option ℕ → List ℕ → List ℕ
-with_node None nodes = nodes
-with_node (Some node) nodes = node ∷ nodes
+-- the node to which an edge leads, if there is one
+abbrev pub child : Option ℕ → List ℕ
+child None = []
+child (Some to) = to ∷ []
 
--- the nodes to which the symbol leads from some nodes
-abbrev pub children : Steps → Option Symbol → List ℕ → List ℕ
-children steps symbol [] = []
-children steps symbol (node ∷ nodes) = with_node (step_by steps node symbol) (children steps symbol nodes)
-
--- the nodes to which patterns that fit the term lead from some nodes
-abbrev pub nodes_after : Steps → Symbols → List ℕ → NamedTerm → List ℕ
-nodes_after steps symbols nodes (variable name ty) = children steps (Some Variable) nodes
-nodes_after steps symbols nodes (constant name ty) = children steps (Some Variable) nodes ++ children steps (symbols name) nodes
-nodes_after steps symbols nodes (combination function argument) =
-    children steps (Some Variable) nodes ++ nodes_after steps symbols (nodes_after steps symbols (children steps (Some Combination) nodes) function) argument
-nodes_after steps symbols nodes (abstraction name ty body) = children steps (Some Variable) nodes ++ children steps (Some Abstraction) nodes
+-- the nodes to which patterns that fit the term lead from a node
+abbrev pub nodes_after : Steps → Symbols → ℕ → NamedTerm → List ℕ
+nodes_after steps symbols from (variable name ty) = child (steps from Variable)
+nodes_after steps symbols from (constant name ty) = child (steps from Variable) ++ child (step_by steps from (symbols name))
+nodes_after steps symbols from (combination function argument) =
+    child (steps from Variable)
+    ++ option_map_or (λ head. flat_map (λ next. nodes_after steps symbols next argument) (nodes_after steps symbols head function)) (steps from Combination) []
+nodes_after steps symbols from (abstraction name ty body) = child (steps from Variable) ++ child (steps from Abstraction)
 
 -- the node to which a pattern leads
 abbrev pub node_after : Steps → Symbols → ℕ → NamedTerm → Option ℕ

@@ -67,7 +67,7 @@ impl Net {
         ensures err { IfErr result (λ fault. fault ≡ Memory) }
     {
         let mut nodes = Vec::new(alloc);
-        self.tree.add_nodes(alloc, &[0], term, &mut nodes)?;
+        self.tree.add_nodes(alloc, 0, term, &mut nodes)?;
         let mut places = Vec::new(alloc);
         self.tree.add_places(&nodes, &mut places)?;
         places.sort_unstable();

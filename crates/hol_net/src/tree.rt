@@ -3,7 +3,7 @@ ghost use Rattle.std.specs.Prelude.{◌≡◌, ◌<◌, [], ◌∷◌, ◌++◌,
 ghost use Rattle.hol_model.specs.Logic.Derivable.{IsMember};
 ghost use Rattle.hol_model.specs.declared.fault.Fault.TheVariants.{Memory};
 ghost use Rattle.hol_net.specs.Tree as spec;
-ghost use Rattle.hol_net.specs.Tree.{steps_of, symbols_of, step_by, children, nodes_after, node_after, all_places, IsTree, Grows};
+ghost use Rattle.hol_net.specs.Tree.{steps_of, symbols_of, step_by, child, nodes_after, node_after, all_places, IsTree, Grows};
 
 use hol_model::Fault;
 use hol_terms::{Parts, Term};
@@ -142,56 +142,53 @@ impl Tree {
         }
     }
 
-    // Puts the nodes to which the symbol leads from some nodes behind those of a list.
+    // Puts the node to which the symbol leads from a node behind those of a list.
     #[tactic(auto, using(crate::proofs::Walks::walking))]
-    fn add_children(
+    fn add_child(
         &self,
-        nodes: &[usize],
+        from: usize,
         symbol: Option<Symbol>,
         found: &mut Vec<usize>,
     ) -> Result<(), Fault>
-        ensures ok { OnOk result (found.new.items ≡ found.old.items ++ children (steps_of self.now) symbol nodes.now) }
+        ensures ok { OnOk result (found.new.items ≡ found.old.items ++ child (step_by (steps_of self.now) from symbol)) }
         ensures err { IfErr result (λ fault. fault ≡ Memory) }
     {
-        for node in nodes {
-            match self.step(*node, symbol) {
-                Some(to) => found.push(to)?,
-                None => {}
-            }
+        match self.step(from, symbol) {
+            Some(to) => found.push(to)?,
+            None => {}
         }
         Ok(())
     }
 
-    /// Puts the nodes to which patterns that fit the term lead from some nodes behind those of a list. Where no node is
-    /// left, the term is not gone into.
-    #[tactic(auto, using(crate::proofs::Walks::walking))]
+    /// Puts the nodes to which patterns that fit the term lead from a node behind those of a list. A combination is not
+    /// gone into where no pattern goes on with one, nor its argument where none goes on behind its function.
+    #[tactic(auto, using(crate::proofs::Walks::going))]
     pub(crate) fn add_nodes(
         &self,
         alloc: Global,
-        nodes: &[usize],
+        from: usize,
         term: &Term,
         found: &mut Vec<usize>,
     ) -> Result<(), Fault>
-        ensures ok { OnOk result (found.new.items ≡ found.old.items ++ nodes_after (steps_of self.now) (symbols_of self.now) nodes.now term.now) }
+        ensures ok { OnOk result (found.new.items ≡ found.old.items ++ nodes_after (steps_of self.now) (symbols_of self.now) from term.now) }
         ensures err { IfErr result (λ fault. fault ≡ Memory) }
     {
-        if nodes.is_empty() {
-            return Ok(());
-        }
-        self.add_children(nodes, Some(Symbol::Variable), found)?;
+        self.add_child(from, Some(Symbol::Variable), found)?;
         match term.parts() {
             Parts::Variable(_, _) => Ok(()),
-            Parts::Constant(name, _) => self.add_children(nodes, self.symbol_of(name), found),
+            Parts::Constant(name, _) => self.add_child(from, self.symbol_of(name), found),
             Parts::Combination(function, argument) => {
-                let mut heads = Vec::new(alloc);
-                self.add_children(nodes, Some(Symbol::Combination), &mut heads)?;
+                let Some(head) = self.step(from, Some(Symbol::Combination)) else {
+                    return Ok(());
+                };
                 let mut middle = Vec::new(alloc);
-                self.add_nodes(alloc, &heads, function, &mut middle)?;
-                self.add_nodes(alloc, &middle, argument, found)
+                self.add_nodes(alloc, head, function, &mut middle)?;
+                for next in &middle {
+                    self.add_nodes(alloc, *next, argument, found)?;
+                }
+                Ok(())
             }
-            Parts::Abstraction(_, _, _) => {
-                self.add_children(nodes, Some(Symbol::Abstraction), found)
-            }
+            Parts::Abstraction(_, _, _) => self.add_child(from, Some(Symbol::Abstraction), found),
         }
     }
 

@@ -1,5 +1,5 @@
 -- The tree finds the patterns that fit, and those alone are kept.
-use Rattle.std.proofs.Common.{◌≡◌, List, [], ◌∷◌, rules, ◌∙◌, ap, filter}
+use Rattle.std.proofs.Common.{◌≡◌, List, rules, ◌∙◌, ap, filter}
 use Rattle.hol_model.specs.Terms.NamedTerm.{NamedTerm}
 use Rattle.hol_model.specs.Rewrites.Matching.{fits}
 use Rattle.hol_net.specs.Tree.{steps_of, symbols_of, nodes_after, all_places}
@@ -9,7 +9,7 @@ use Rattle.hol_net.proofs.net.Net.candidates.Goals as goal
 
 pub returns-clause-ok : goal.returns-clause-ok
 returns-clause-ok c =
-    let reached : c.add_nodes.new.found.items ≡ nodes_after (steps_of c.self.inside.tree) (symbols_of c.self.inside.tree) (0 ∷ []) c.args.term.now =
+    let reached : c.add_nodes.new.found.items ≡ nodes_after (steps_of c.self.inside.tree) (symbols_of c.self.inside.tree) 0 c.args.term.now =
     rw c.new-nodes.ensures.items at c.in_ok-add_nodes.ensures.ok in
     let collected : c.add_places.new.found.items ≡ all_places c.self.inside.tree.ends.items c.add_nodes.new.found.items =
     rw (c.new-places.ensures.items, c.deref.ensures.value) at c.in_ok-add_places.ensures.ok in
