@@ -18,8 +18,8 @@ use crate::joins::{
     abs, ap_term, ap_thm, if_changed, mk_comb, refl_known, right_side, trans_known,
 };
 use hol_journal::Rec;
-use hol_model::{Fault, TERM_HEIGHT_LIMIT, TERM_NODES_LIMIT, TYPE_NODES_LIMIT};
-use hol_terms::Term;
+use hol_model::Fault;
+use hol_terms::{Term, equation_fits};
 use hol_theorem_library::Library;
 
 /// What a conversion answers on a term.
@@ -28,16 +28,6 @@ pub enum Converted {
     /// `|- t = t`, which is not made.
     Same,
     Changed(Rec),
-}
-
-// Whether `t = t` is within the limits.
-fn equation_fits(t: &Term) -> bool
-    ensures { result ≡ is_within_limits (equation t.now t.now) }
-{
-    t.well_formed();
-    t.height() + 2 <= TERM_HEIGHT_LIMIT
-        && 2 * t.nodes() + 3 <= TERM_NODES_LIMIT
-        && 2 * t.ty().nodes() + 3 <= TYPE_NODES_LIMIT
 }
 
 /// That the term equals itself. Refused as REFL of a known term: TooLarge.

@@ -22,7 +22,7 @@ ghost use Rattle.hol_equal.specs.Conversions.{beta_converted_outcome};
 use crate::conversion::converted_known;
 use crate::steps::{self, conclusion_of};
 use hol_alpha::aconv;
-use hol_journal::{Rec, Recorder};
+use hol_journal::{Rec, Recorder, theorems_hold};
 pub use hol_kernel::equation_parts;
 use hol_model::Fault;
 use hol_terms::{Parts, Term};
@@ -116,9 +116,7 @@ fn kept(recorder: &mut Recorder, premise: &Rec) -> Result<Rec, Fault>
     ensures ok { IfOk result (λ made. made ≡ premise.now) }
     ensures err { IfErr result (λ fault. fault ≡ Memory) }
 {
-    let alloc = recorder.alloc();
-    let _recorder = recorder;
-    premise.copy(alloc)
+    premise.copy(recorder.alloc())
 }
 
 /// The theorem with this conclusion, of the same image as its own, by REFL and EQ_MP, also where nothing is bound. The theory
@@ -148,7 +146,7 @@ pub fn cut(recorder: &mut Recorder, first: &Rec, second: &Rec) -> Result<Rec, Fa
     ensures derives { (h k : List Nameless) (p q : Nameless) → Shows first.now.theorem h p → Shows second.now.theorem k q
         → DerivesIf (nameless_within_limits (nameless_equation bool_type p q)) result (h ++ without p k) q }
 {
-    steps::theorems_hold(first, second);
+    theorems_hold(first, second);
     let equivalence = steps::deduct_antisym(recorder, first, second)?;
     steps::eq_mp_known(recorder, &equivalence, first)
 }
@@ -163,7 +161,7 @@ pub fn cut_known(recorder: &mut Recorder, first: &Rec, second: &Rec) -> Result<R
     ensures derives { (h k : List Nameless) (p q : Nameless) → Shows first.now.theorem h p → Shows second.now.theorem k q
         → DerivesIf (nameless_within_limits (nameless_equation bool_type p q)) result (h ++ without p k) q }
 {
-    steps::theorems_hold(first, second);
+    theorems_hold(first, second);
     let equivalence = steps::deduct_antisym_known(recorder, first, second)?;
     steps::eq_mp_known(recorder, &equivalence, first)
 }

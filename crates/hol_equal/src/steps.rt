@@ -18,7 +18,7 @@ ghost use Rattle.hol_equal.specs.Formulas.{IsFormula};
 ghost use Rattle.hol_journal.specs.Growth.{Continues};
 ghost use Rattle.hol_equal.specs.Sequents.{Shows, Derives, DerivesInstance, Gives};
 
-use hol_journal::{Inference, Rec, Recorder};
+use hol_journal::{Inference, Rec, Recorder, theorems_hold};
 use hol_model::Fault;
 use hol_terms::Term;
 use hol_types::Ty;
@@ -33,15 +33,6 @@ pub fn conclusion_of<'a>(recorder: &Recorder, premise: &'a Rec) -> &'a Term
 {
     recorder.theory_is_legal();
     recorder.thm(premise).concl()
-}
-
-// Both are theorems. Nothing is computed: the clauses are the law, for callers' proofs.
-pub(crate) fn theorems_hold(first: &Rec, second: &Rec)
-    ensures first { IsTheorem first.now.theorem }
-    ensures second { IsTheorem second.now.theorem }
-{
-    let _first = first.theorem().concl();
-    let _second = second.theorem().concl();
 }
 
 // REFL, which walks the term.

@@ -1,5 +1,4 @@
 pub mod Stacks
-pub mod Setting
 pub mod Tops
 pub mod Refinements
 pub mod Focusing

@@ -1,14 +1,13 @@
 // The theorem of a goal, once no goal is open.
 ghost use Rattle.std.specs.Prelude.{◌≡◌};
 ghost use Rattle.hol_model.specs.Kernel.Outcome.{Answers};
-ghost use Rattle.hol_model.specs.Kernel.Theorem.{IsTheorem};
 ghost use Rattle.hol_model.specs.Goals.Achieving.{achieves};
 ghost use Rattle.hol_model.specs.Goals.GoalStates.{closing_outcome};
 ghost use Rattle.hol_just.specs.Steps.{goal_of};
 ghost use Rattle.hol_journal.specs.Journal.{IsMade, theorem_in};
 ghost use Rattle.hol_goals.specs.Closing.{Closes};
 
-use hol_journal::{Inference, Rec, Recorder, journals_grow};
+use hol_journal::{Inference, Rec, Recorder, journals_grow, theorems_hold};
 use hol_just::Goal;
 use hol_model::Fault;
 
@@ -17,15 +16,6 @@ fn achieves(recorder: &Recorder, theorem: &Rec, goal: &Goal) -> bool
     ensures { result ≡ achieves (goal_of goal.now) theorem.now.theorem }
 {
     hol_just_replay::achieves(recorder, theorem, goal)
-}
-
-// Both are theorems. Nothing is computed: the clauses are the law, for the caller's proof.
-fn theorems_hold(first: &Rec, second: &Rec)
-    ensures first { IsTheorem first.now.theorem }
-    ensures second { IsTheorem second.now.theorem }
-{
-    let _first = first.theorem().concl();
-    let _second = second.theorem().concl();
 }
 
 /// The theorem of the goal's own term, from one that achieves the goal: by EQ_MP with REFL of the term. Refused: InvalidStep

@@ -1,6 +1,5 @@
 // The stack.
-ghost use Rattle.std.specs.Prelude.{◌≡◌, Result, Some, None, IfOk, IfErr};
-ghost use Rattle.hol_model.specs.declared.fault.Fault.{Fault};
+ghost use Rattle.std.specs.Prelude.{◌≡◌, Some, None, IfOk, IfErr};
 ghost use Rattle.hol_model.specs.declared.fault.Fault.TheVariants.{Memory};
 ghost use Rattle.hol_model.specs.Kernel.Rules.{is_formula};
 ghost use Rattle.hol_journal.specs.Journal.{Journal};
@@ -18,10 +17,9 @@ use hol_combine::refine_goal;
 use hol_host::Refiners;
 use hol_journal::{Rec, Recorder};
 use hol_just::{Goal, Growing, Step, sub};
-use hol_kernel::Thm;
 use hol_model::Fault;
 use hol_tactic_exprs::{Fuel, Tac};
-use hol_terms::Term;
+use hol_terms::{Term, equation_fits};
 use std::alloc::Global;
 use std::collections::VecDeque;
 
@@ -75,14 +73,6 @@ fn begun(alloc: Global, term: &Term) -> Result<Attempt, Fault>
     })
 }
 
-// Whether a call succeeded.
-fn decided(answer: Result<Thm, Fault>) -> Result<(), Fault>
-    ensures { (outcome : Result states.Proof Fault) (proof : states.Proof) → IsDecided outcome proof answer → IsDecided outcome proof result }
-{
-    let _theorem = answer?;
-    Ok(())
-}
-
 // Whether a term is a formula.
 fn is_formula(term: &Term) -> bool
     ensures { result ≡ is_formula term.now }
@@ -94,12 +84,17 @@ fn is_formula(term: &Term) -> bool
 fn settable(recorder: &Recorder, term: &Term) -> Result<(), Fault>
     ensures { IsDecided (states.set_outcome recorder.now.theory term.now) (states.begun (states.goal_of term.now)) result }
 {
-    let alloc = recorder.alloc();
     if !is_formula(term) {
         return Err(Fault::NotBool);
     }
-    let equation = recorder.theory().refl(alloc, term);
-    decided(equation)
+    if let Some(fault) = recorder.theory().first_unknown(term) {
+        return Err(fault);
+    }
+    if equation_fits(term) {
+        Ok(())
+    } else {
+        Err(Fault::TooLarge)
+    }
 }
 
 impl Stack {

@@ -203,8 +203,8 @@ fn rule_of(alloc: Global, inference: Inference<'_>) -> Result<Rule, Fault>
     }
 }
 
-// Both are theorems.
-fn theorems_hold(first: &Rec, second: &Rec)
+/// Both are theorems. Nothing is computed: the clauses are the law, for callers' proofs.
+pub fn theorems_hold(first: &Rec, second: &Rec)
     ensures first { IsTheorem first.now.theorem }
     ensures second { IsTheorem second.now.theorem }
 {

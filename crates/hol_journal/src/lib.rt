@@ -9,7 +9,7 @@ mod limits;
 mod recorder;
 mod trail;
 
-pub use inference::Inference;
+pub use inference::{Inference, theorems_hold};
 pub use laws::journals_grow;
 pub use limits::within_limits;
 pub use recorder::{Rec, Recorder};

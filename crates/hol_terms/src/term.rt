@@ -238,18 +238,16 @@ impl Term {
         let has_binders = function.node.has_binders || argument.node.has_binders;
         let names = function.node.names.union(argument.node.names);
         let shape = TermShape::Combination(function.copy(alloc)?, argument.copy(alloc)?);
-        Term::from_node(
-            alloc,
-            TermNode {
-                nodes,
-                height,
-                has_tyvars,
-                has_binders,
-                names,
-                ty,
-                shape,
-            },
-        )
+        let node = TermNode {
+            nodes,
+            height,
+            has_tyvars,
+            has_binders,
+            names,
+            ty,
+            shape,
+        };
+        Term::from_node(alloc, node)
     }
 
     /// The abstraction of a variable over a body.
@@ -269,18 +267,16 @@ impl Term {
         let has_tyvars = binder.node.has_tyvars || body.node.has_tyvars;
         let names = body.node.names;
         let shape = TermShape::Abstraction(binder.copy(alloc)?, body.copy(alloc)?);
-        Term::from_node(
-            alloc,
-            TermNode {
-                nodes,
-                height,
-                has_tyvars,
-                has_binders: true,
-                names,
-                ty,
-                shape,
-            },
-        )
+        let node = TermNode {
+            nodes,
+            height,
+            has_tyvars,
+            has_binders: true,
+            names,
+            ty,
+            shape,
+        };
+        Term::from_node(alloc, node)
     }
 
     /// The parts of the term.
