@@ -209,7 +209,7 @@ impl<L: Leaves> Level<'_, L> {
     {
         let (function, argument) = combination(t, self.depth)?;
         let part = self.below(library, conv, function, fuel);
-        of_function(library, t, function, argument, part)
+        of_function(library, t, function, part, argument)
     }
 
     // ABS_CONV.

@@ -146,8 +146,8 @@ pub fn of_function(
     library: &mut Library,
     t: &Term,
     function: &Term,
-    argument: &Term,
     part: Result<Converted, Fault>,
+    argument: &Term,
 ) -> Result<Converted, Fault>
     requires library { IsLibrary library.old }
     requires whole { t.now ≡ combination function.now argument.now }

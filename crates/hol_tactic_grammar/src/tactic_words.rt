@@ -12,13 +12,13 @@ pub enum Plain {
     No,
     Assumption,
     Refl,
-    Conj,
+    Taut,
     Eq,
+    Conj,
     Disj1,
     Disj2,
     Disch,
     Gen,
-    Taut,
 }
 
 /// A refiner that takes a name.
@@ -63,8 +63,8 @@ const STARTS: [(&str, Start); 23] = [
     ("ASSUMPTION_TAC", Start::OfPlain(Plain::Assumption)),
     ("REFL_TAC", Start::OfPlain(Plain::Refl)),
     ("TAUT_TAC", Start::OfPlain(Plain::Taut)),
-    ("CONJ_TAC", Start::OfPlain(Plain::Conj)),
     ("EQ_TAC", Start::OfPlain(Plain::Eq)),
+    ("CONJ_TAC", Start::OfPlain(Plain::Conj)),
     ("DISJ1_TAC", Start::OfPlain(Plain::Disj1)),
     ("DISJ2_TAC", Start::OfPlain(Plain::Disj2)),
     ("DISCH_TAC", Start::OfPlain(Plain::Disch)),
