@@ -14,7 +14,7 @@ use hol_tactic_exprs::{Conv, Fuel};
 use hol_terms::Term;
 use hol_theorem_library::Library;
 
-/// The theorem that a conversion answers.
+/// What a conversion answers on a term `t`: a theorem `|- t = u`, or its refusal.
 pub type Made = Result<Rec, Fault>;
 
 /// Tries conversions without parts. What is above is generic in it.

@@ -27,7 +27,7 @@ pub enum Expansion {
     NoSubgoals(Rec),
 }
 
-/// That, or why the proof is not refined.
+/// What is told of a refinement: the stage that the proof reaches, or the refusal.
 pub type Told = Result<Expansion, Fault>;
 
 impl Attempt {
