@@ -1,5 +1,5 @@
 // Bytes at the end of a text.
-ghost use Rattle.std.specs.Prelude.{◌≡◌, ◌∷◌, ◌++◌, OnOk};
+ghost use Rattle.std.specs.Prelude.{◌≡◌, ◌∷◌, ◌++◌, OnOk, codes};
 ghost use Rattle.std.specs.String.{string_bytes};
 ghost use Rattle.hol_model.specs.Texts.Printing.{type_tree};
 ghost use Rattle.hol_model.specs.Texts.Texts.{type_bytes};
@@ -9,7 +9,7 @@ ghost use Rattle.hol_syntax_print.specs.PrintedType.{placed};
 use hol_types::{Ty, TypeParts};
 use std::alloc::AllocError;
 
-/// Puts a text at the end. One of a byte or two, as marks and most names are, is put there without a call.
+/// Puts a text at the end. One of a byte or two, as marks and most names are, is pushed, which takes fewer steps than a copy.
 #[inline(always)]
 pub fn append(out: &mut String, text: &str) -> Result<(), AllocError>
     ensures ok { OnOk result (Appends (string_bytes out.old) (string_bytes out.new) (λ rest. text.now ++ rest)) }
@@ -56,34 +56,22 @@ pub fn print_type(ty: &Ty, on_left: bool, out: &mut String) -> Result<(), AllocE
     }
 }
 
-/// Prints a colon and a type.
-#[inline(always)]
-fn print_annotation(ty: &Ty, out: &mut String) -> Result<(), AllocError>
-    ensures ok { OnOk result (Appends (string_bytes out.old) (string_bytes out.new) (λ rest. 58 ∷ type_bytes (type_tree ty.now) rest)) }
-{
-    match ty.parts() {
-        TypeParts::Bool => append(out, ":bool"),
-        _ => {
-            append(out, ":")?;
-            print_type(ty, false, out)
-        }
-    }
-}
-
-/// Prints a name with its type, between two texts.
-#[inline(always)]
-pub fn print_typed(
-    before: &str,
-    name: &str,
+/// Prints a colon, a type and the text `after`. `bool_after` is what that makes of `bool`, which is put at the end as one piece.
+pub fn print_annotation(
     ty: &Ty,
     after: &str,
+    bool_after: &str,
     out: &mut String,
 ) -> Result<(), AllocError>
-    ensures ok { OnOk result (Appends (string_bytes out.old) (string_bytes out.new)
-        (λ rest. before.now ++ (name.now ++ 58 ∷ type_bytes (type_tree ty.now) (after.now ++ rest)))) }
+    requires { bool_after.now ≡ codes ":bool" ++ after.now }
+    ensures ok { OnOk result (Appends (string_bytes out.old) (string_bytes out.new) (λ rest. 58 ∷ type_bytes (type_tree ty.now) (after.now ++ rest))) }
 {
-    append(out, before)?;
-    append(out, name)?;
-    print_annotation(ty, out)?;
-    append(out, after)
+    match ty.parts() {
+        TypeParts::Bool => out.push_str(bool_after),
+        _ => {
+            append(out, ":")?;
+            print_type(ty, false, out)?;
+            append(out, after)
+        }
+    }
 }

@@ -9,7 +9,7 @@ ghost use Rattle.hol_model.specs.Texts.Reading as reading;
 ghost use Rattle.hol_model.specs.Texts.Reading.{Bindings, bound_type};
 ghost use Rattle.hol_model.specs.Texts.SequentGrammar.{ReadsSequent};
 ghost use Rattle.hol_model.specs.Texts.SequentTexts.{IsReadableFormula, AreReadableFormulas};
-ghost use Rattle.hol_model.specs.Texts.Texts.{term_bytes, further_bytes, listed_bytes, IsNamedType, IsKnownTerm, ReadsType, ReadsTerm};
+ghost use Rattle.hol_model.specs.Texts.Texts.{term_bytes, listed_bytes, IsNamedType, IsKnownTerm, ReadsType, ReadsTerm};
 ghost use Rattle.hol_model.specs.Texts.Texts as texts;
 ghost use Rattle.hol_syntax_print.specs.Output.{Appends};
 ghost use Rattle.hol_syntax.specs.Scope.{scope_of};
@@ -18,7 +18,7 @@ ghost use Rattle.hol_syntax_print.specs.Innermost.{IsInnermost};
 ghost use Rattle.hol_syntax_print.specs.Shape.{shape_tree, joined_tree, IsNamed};
 
 use crate::innermost::Innermost;
-use crate::output::{append, close, open, print_type, print_typed};
+use crate::output::{append, close, open, print_annotation, print_type};
 use crate::shape::{Shape, binder_text, infix_text, is_bare_constant, is_bound, level, shape_of};
 use hol_model::Fault;
 use hol_syntax::Scope;
@@ -40,7 +40,9 @@ fn print_variable(
     if is_bound(binders, name, ty) {
         append(out, name)
     } else {
-        print_typed("(", name, ty, ")", out)
+        append(out, "(")?;
+        append(out, name)?;
+        print_annotation(ty, ")", ":bool)", out)
     }
 }
 
@@ -59,7 +61,9 @@ fn print_constant(
     if is_bare_constant(scope, binders, name) {
         append(out, name)
     } else {
-        print_typed("[", name, ty, "]", out)
+        append(out, "[")?;
+        append(out, name)?;
+        print_annotation(ty, "]", ":bool]", out)
     }
 }
 
@@ -177,7 +181,9 @@ fn print_binding<'a>(
         (term_bytes (grammar.Bind (binder_here binder) name.now (type_tree ty.now) (term_tree (scope_of scope.now) ((name.now, ty.now) ∷ bindings) body.now)))) }
     ensures kept { (bindings : Bindings) → IsInnermost binders.old bindings → OnOk result (IsInnermost binders.new bindings) }
 {
-    print_typed(binder_text(binder), name, ty, ". ", out)?;
+    append(out, binder_text(binder))?;
+    append(out, name)?;
+    print_annotation(ty, ". ", ":bool. ", out)?;
     let hidden = binders.enter(name, ty)?;
     print_term(body, scope, 0, binders, out)?;
     binders.leave(name, hidden)
@@ -197,24 +203,6 @@ fn print_whole<'a>(
     print_term(term, scope, 0, binders, out)
 }
 
-// Prints each term behind a comma.
-fn print_further<'a>(
-    binders: &mut Innermost<'a>,
-    scope: &Scope,
-    terms: &'a [Term],
-    out: &mut String,
-) -> Result<(), AllocError>
-    requires none { IsInnermost binders.old [] }
-    ensures ok { OnOk result (Appends (string_bytes out.old) (string_bytes out.new) (further_bytes (scope_of scope.now) terms.now)) }
-    ensures kept { OnOk result (IsInnermost binders.new []) }
-{
-    for term in terms {
-        append(out, ", ")?;
-        print_whole(binders, scope, term, out)?;
-    }
-    Ok(())
-}
-
 // Prints the terms with commas between them and a space behind, if there are any.
 fn print_listed<'a>(
     binders: &mut Innermost<'a>,
@@ -230,7 +218,10 @@ fn print_listed<'a>(
         [] => Ok(()),
         [first, rest @ ..] => {
             print_whole(binders, scope, first, out)?;
-            print_further(binders, scope, rest, out)?;
+            for term in rest {
+                append(out, ", ")?;
+                print_whole(binders, scope, term, out)?;
+            }
             append(out, " ")
         }
     }
