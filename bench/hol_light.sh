@@ -2,8 +2,10 @@
 # Builds HOL Light with the peers of the benchmark's works as one native program: `hol_light.sh OUT`.
 # It takes the sources of Debian's package hol-light (up to class.ml) and wants camlp5, ocaml and libnum-ocaml-dev. Call it as
 #     OUT WORK SIZE.. [--same | --print] < SCRIPT
-# SCRIPT is holp's script of the work, which --same and the work `taut` read. It does one work, and writes the seconds of the
-# processor that the work took behind the start, at the end of standard error.
+#     OUT check LOG
+# SCRIPT is holp's script of the work, which --same and the work `taut` read. `check` reads a proof log and prints what
+# `holp check LOG` prints. It does one work, and writes the seconds of the processor that the work took behind the start, at
+# the end of standard error. The start itself prints some lines first.
 set -e
 if [ $# -ne 1 ]; then
     echo "usage: hol_light.sh OUT" >&2

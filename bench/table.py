@@ -20,16 +20,17 @@ import tempfile
 BENCH = pathlib.Path(__file__).resolve().parent
 ENOUGH, LIMIT, MEMORY = 10.0, 60, 3_000_000_000
 
-# what is said of it; the generator, with {} for its size; the size, and half of it; how it is run; the peer's arguments
+# what is said of it; the generator, with {} for its size; the size, and half of it; how it is run; the peer's arguments, with
+# {log} for the log that both check
 WORKS = [
     ("{} formulas assumed, joined, discharged, undischarged", "hypotheses.sh {}", 600, 300, "run", "hypotheses {}"),
     ("the same, with the log", "hypotheses.sh {}", 600, 300, "log", None),
     ("INST ten times over 2^{} leaves", "printing.sh INST {}", 16, 15, "run", "printing INST {}"),
     ("INST_TYPE ten times over 2^{} leaves", "printing.sh INST_TYPE {}", 16, 15, "run", "printing INST_TYPE {}"),
     ("SPEC through {} `!`, one by one", "works.py spec {}", 200, 100, "run", "spec {}"),
-    ("`check` of its log, {} `!`", "works.py spec {}", 100, 50, "check", "spec {}"),
-    ("`check` of its log, {} `!`", "works.py spec {}", 200, 100, "check", "spec {}"),
-    ("`check` of its log, {} `!`", "works.py spec {}", 300, 150, "check", "spec {}"),
+    ("`check` of its log, {} `!`", "works.py spec {}", 100, 50, "check", "check {log}"),
+    ("`check` of its log, {} `!`", "works.py spec {}", 200, 100, "check", "check {log}"),
+    ("`check` of its log, {} `!`", "works.py spec {}", 300, 150, "check", "check {log}"),
     ("De Morgan by a conversion, tree of depth {}", "rewriting.sh conv tree {}", 11, 10, "run", "rewriting conv tree {}"),
     ("De Morgan by REWRITE_TAC, tree of depth {}", "rewriting.sh tactic tree {}", 11, 10, "run", "rewriting tactic tree {}"),
     ("{} negations by a conversion", "rewriting.sh conv negations {}", 1980, 990, "run", "rewriting conv negations {}"),
@@ -59,8 +60,8 @@ WORKS = [
     ("REPEAT (CHOOSE_TAC ..), refused", "works.py runaway choose", None, None, "run", "runaway choose"),
     ("REPEAT ALL_TAC once, refused", "works.py loops {}", 1, None, "run", None),
     ("{} times REPEAT ALL_TAC, refused", "works.py loops {}", 1000, 500, "run", None),
-    ("`check` of {} rounds of six rules", "log.sh {} 20", 80000, 40000, "check log", None),
-    ("`check` of {} abstractions over one open term", "open.sh {} 18", 1000, 500, "check log", None),
+    ("`check` of {} rounds of six rules", "log.sh {} 20", 80000, 40000, "check log", "check {log}"),
+    ("`check` of {} abstractions over one open term", "open.sh {} 18", 1000, 500, "check log", "check {log}"),
 ]
 
 
@@ -153,14 +154,17 @@ def row(work, size, options, room, start, is_compared):
         cells = [told(seconds), f"{peak:.0f}"]
     except Failed as failed:
         seconds, cells = None, [str(failed), ""]
+    log = script if how == "check log" else room / "log"
+    arguments = [] if peer is None else [word.format(size, log=log) for word in peer.split()]
     has_failed = False
     for extra, has_ratio in [(["--same"], True), (["--print"], True), ([], False)]:
         ratio = [""] if has_ratio else []
-        if peer is None or options.hol_light is None or not is_compared or has_failed:
+        is_one_way = how.startswith("check") and extra != ["--same"]
+        if peer is None or options.hol_light is None or not is_compared or has_failed or is_one_way:
             cells += [""] + ratio
             continue
         try:
-            other = peers(options.hol_light, peer.format(size).split() + extra, script, room, options.runs)
+            other = peers(options.hol_light, arguments + extra, script, room, options.runs)
             if has_ratio and seconds is not None and other > 0.0005:
                 ratio = [f"{seconds / other:.2f}"]
             cells += [told(other)] + ratio
