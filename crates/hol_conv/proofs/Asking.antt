@@ -19,7 +19,10 @@ use Rattle.hol_conv_rules.specs.Makes.{Makes, IsRightSide}
 use Rattle.hol_conv_rules.specs.declared.converted.Converted.{Converted}
 use Rattle.hol_conv_rules.specs.declared.converted.Converted.TheVariants.{Same, Changed}
 use Rattle.hol_conv_rules.specs.Converted.{theorem_of, answered, IsAnswerOf, IsHeldIn, MakesAnswer}
-use Rattle.hol_conv.specs.Answers.{IsAsked, AnswersOver}
+use Rattle.hol_laws_refiners.proofs.Repeating.{IsFinal, JoinedSoFar}
+use Rattle.hol_conv.specs.Answers.{IsAsked, AnswersOver, AnswersBehind}
+use Rattle.hol_conv.specs.Chains.{proved_by}
+use Rattle.hol_conv.specs.declared.chain.Chain.{Chain}
 
 -- ---- known parts
 
@@ -117,3 +120,14 @@ pub carried-answer : {old new : Library} {hosts : HostConversions} {depth steps 
 carried-answer {old} {new} {hosts} {depth} {steps} {left} {c} {t} result continued r =
     subst (λ (theory : Theory). Converts theory (store_in old) hosts depth steps c t (answered theory t result) left) continued.theory
     (subst (λ (store : Store). Converts new.recorder.theory (theorems_in (stored_of store)) hosts depth steps c t (answered new.recorder.theory t result) left) continued.stored r)
+
+-- and so is what is answered behind a chain
+pub carried-behind : {old new : Library} {hosts : HostConversions} {depth first steps left : ℕ} {whole rest : Conversion} {t : NamedTerm} (chain : Chain) (result : Result Converted Fault)
+    → IsContinued old new → JoinedSoFar old.recorder.theory (store_in old) hosts depth first whole t steps rest (proved_by old.recorder.theory chain) chain.current
+    → AnswersBehind new hosts depth whole t rest chain steps result left → AnswersOver old hosts depth first whole t result left × IsFinal (answered old.recorder.theory t result)
+carried-behind {old} {new} {hosts} {depth} {first} {steps} {left} {whole} {rest} {t} chain result continued so_far answers =
+    subst (λ (theory : Theory). (first : ℕ) → JoinedSoFar theory (store_in old) hosts depth first whole t steps rest (proved_by theory chain) chain.current
+    → Converts theory (store_in old) hosts depth first whole t (answered theory t result) left × IsFinal (answered theory t result)) continued.theory
+    (subst (λ (store : Store). (first : ℕ) → JoinedSoFar new.recorder.theory (theorems_in (stored_of store)) hosts depth first whole t steps rest (proved_by new.recorder.theory chain) chain.current
+    → Converts new.recorder.theory (theorems_in (stored_of store)) hosts depth first whole t (answered new.recorder.theory t result) left × IsFinal (answered new.recorder.theory t result))
+    continued.stored answers) first so_far

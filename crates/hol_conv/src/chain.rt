@@ -37,7 +37,7 @@ pub(crate) struct Chain {
 }
 
 /// The chain without theorems.
-pub(crate) fn begin(alloc: Global, t: &Term) -> Result<Chain, Fault>
+fn begin(alloc: Global, t: &Term) -> Result<Chain, Fault>
     ensures theorems { IfOk result (λ chain. (theory : Theory) → proved_by theory chain ≡ []) }
     ensures current { IfOk result (λ chain. chain.current ≡ t.now) }
     ensures begins { (library : library.Library) → is_known library.recorder.theory t.now ≡ true → IfOk result (IsChainFrom library t.now) }

@@ -7,9 +7,10 @@ ghost use Rattle.hol_tactic_exprs.specs.Expressions.{conversion_of};
 ghost use Rattle.hol_conv_rules.specs.Makes.{Makes};
 ghost use Rattle.hol_conv_rules.specs.Converted.{answered, MakesAnswer};
 ghost use Rattle.hol_conv.specs.Leaves.{IsLeaf, stands_for, thenc_of, orelsec_of};
-ghost use Rattle.hol_conv.specs.Answers.{IsAsked, ConvertsOver, AnswersOver};
+ghost use Rattle.hol_conv.specs.Answers.{IsAsked, ConvertsOver, AnswersOver, AnswersBehind, top_depth_again};
+ghost use Rattle.hol_conv.specs.Chains.{IsChainFrom};
 
-use crate::chain::{Linked, begin_by, begin_twice, changed, link, or_same, same};
+use crate::chain::{Chain, Linked, begin_by, begin_twice, changed, link, or_same, same};
 use crate::leaves::{Leaves, Made};
 use crate::parts::{abstraction, combination};
 use hol_conv_rules::{
@@ -161,7 +162,27 @@ impl<L: Leaves> Level<'_, L> {
             Ok(made) => made,
             Err(fault) => return or_same(library, t, Err(fault), fuel),
         };
-        let mut chain = begin_by(library, t, made)?;
+        let chain = begin_by(library, t, made)?;
+        self.repeat_on(library, conv, t, chain, fuel)
+    }
+
+    // What REPEATC comes to on a term behind a chain from it. It stands apart, since most terms begin no chain.
+    #[cycle(converted)]
+    fn repeat_on(
+        &self,
+        library: &mut Library,
+        conv: &Conv,
+        t: &Term,
+        chain: Chain,
+        fuel: &mut Fuel,
+    ) -> Answer
+        requires asked { IsAsked (L.is_ready self.now.leaves.now) library.old t.now }
+        requires chain { IsChainFrom library.old t.now chain }
+        ensures converts { AnswersBehind library.old (L.hosts self.now.leaves.now) self.now.depth (conversions.repeatc (stands_for (L.means self.now.leaves.now) conv.now)) t.now
+            (conversions.repeatc (stands_for (L.means self.now.leaves.now) conv.now)) chain fuel.old.left result fuel.new.left }
+        ensures makes { MakesAnswer library.old library.new t.now result }
+    {
+        let mut chain = chain;
         loop {
             let next = self.converted(library, conv, &chain.current, fuel);
             chain = match link(library, t, chain, next, fuel) {
@@ -321,7 +342,30 @@ impl<L: Leaves> Level<'_, L> {
                 return then(library, t, &begun, right, last);
             }
         };
-        let mut chain = begin_twice(library, t, begun, found)?;
+        let chain = begin_twice(library, t, begun, found)?;
+        self.top_depth_on(library, whole, part, t, chain, fuel)
+    }
+
+    // What TOP_DEPTH_CONV, the whole of a part, comes to on a term behind a chain from it, where something has changed below. It
+    // stands apart, since most terms begin no chain.
+    #[cycle(converted)]
+    fn top_depth_on(
+        &self,
+        library: &mut Library,
+        whole: &Conv,
+        part: &Conv,
+        t: &Term,
+        chain: Chain,
+        fuel: &mut Fuel,
+    ) -> Answer
+        requires whole { conversion_of whole.now ≡ conversions.top_depth_conv (conversion_of part.now) }
+        requires asked { IsAsked (L.is_ready self.now.leaves.now) library.old t.now }
+        requires chain { IsChainFrom library.old t.now chain }
+        ensures converts { AnswersBehind library.old (L.hosts self.now.leaves.now) self.now.depth (stands_for (L.means self.now.leaves.now) whole.now) t.now
+            (top_depth_again (stands_for (L.means self.now.leaves.now) part.now)) chain fuel.old.left result fuel.new.left }
+        ensures makes { MakesAnswer library.old library.new t.now result }
+    {
+        let mut chain = chain;
         loop {
             let again = self.converted(library, part, &chain.current, fuel);
             chain = match link(library, t, chain, again, fuel) {

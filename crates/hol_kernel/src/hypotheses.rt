@@ -83,7 +83,7 @@ pub fn copies(alloc: Global, terms: &[Term]) -> Result<Vec<Term>, Fault>
     ensures ok { IfOk result (λ all. all.items ≡ terms.now) }
     ensures err { IfErr result (λ fault. fault ≡ Memory) }
 {
-    let mut all = Vec::new(alloc);
+    let mut all = Vec::with_capacity(alloc, terms.len())?;
     push_copies(alloc, &mut all, terms)?;
     Ok(all)
 }
@@ -99,7 +99,7 @@ fn merged(alloc: Global, first: &[Term], second: &[Term]) -> Result<Vec<Term>, F
     ensures ok { IfOk result (λ all. all.items ≡ spec.with_hypotheses first.now second.now) }
     ensures err { IfErr result (λ fault. fault ≡ Memory) }
 {
-    let mut all = Vec::new(alloc);
+    let mut all = Vec::with_capacity(alloc, first.len().saturating_add(second.len()))?;
     let mut left = 0;
     let mut right = 0;
     while left < first.len() && right < second.len() {
@@ -133,7 +133,7 @@ fn with_few_new(alloc: Global, first: &[Term], second: &[Term]) -> Result<Vec<Te
     ensures ok { IfOk result (λ all. all.items ≡ spec.with_hypotheses first.now second.now) }
     ensures err { IfErr result (λ fault. fault ≡ Memory) }
 {
-    let mut all = Vec::new(alloc);
+    let mut all = Vec::with_capacity(alloc, first.len().saturating_add(second.len()))?;
     let mut rest = first;
     for new in second {
         rest = put_new(alloc, &mut all, rest, new)?;
@@ -148,7 +148,7 @@ fn with_few_old(alloc: Global, first: &[Term], second: &[Term]) -> Result<Vec<Te
     ensures ok { IfOk result (λ all. all.items ≡ spec.with_hypotheses first.now second.now) }
     ensures err { IfErr result (λ fault. fault ≡ Memory) }
 {
-    let mut all = Vec::new(alloc);
+    let mut all = Vec::with_capacity(alloc, first.len().saturating_add(second.len()))?;
     let mut rest = second;
     for old in first {
         rest = put_old(alloc, &mut all, rest, old)?;
@@ -215,7 +215,7 @@ fn without_index(alloc: Global, terms: &[Term], index: usize) -> Result<Vec<Term
     ensures ok { IfOk result (λ others. others.items ≡ take index terms.now ++ drop (index + 1) terms.now) }
     ensures err { IfErr result (λ fault. fault ≡ Memory) }
 {
-    let mut others = Vec::new(alloc);
+    let mut others = Vec::with_capacity(alloc, terms.len() - 1)?;
     push_copies(alloc, &mut others, &terms[..index])?;
     push_copies(alloc, &mut others, &terms[index + 1..])?;
     Ok(others)

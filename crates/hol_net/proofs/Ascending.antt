@@ -1,5 +1,6 @@
 -- Ascending lists of places: two with the same members are one.
-use Rattle.std.proofs.Common.{◌≡◌, inl, inr, ℕ, zero, suc, ◌+◌, ◌<◌, ◌≤◌, List, [], ◌∷◌, Bool, true, false, refl, sym, ◌∙◌, ap, arith, length, if◌then◌else◌}
+use Rattle.std.proofs.Common.{◌≡◌, inl, inr, ℕ, zero, suc, ◌+◌, ◌<◌, ◌≤◌, List, [], ◌∷◌, ◌++◌, Bool, true, false, refl, sym, ◌∙◌, ap, arith, length, drop, append_assoc, if◌then◌else◌}
+use Rattle.std.proofs.lemmas.List.{append-nil, drop_all}
 use Rattle.std.specs.Prelude.{slice_index_or, filter}
 use Rattle.std.specs.List.{Contains}
 use Rattle.std.specs.List.Sorted.{IsStrictlySortedBy}
@@ -129,6 +130,38 @@ places_kept {A} test xs places rising complete =
         let same : known.0 ≡ n = omega arith in
         let passed : passes test xs n ≡ true = ap (passes test xs) (sym same) ∙ known.2 in
         in_filter (passes test xs) n places passed (complete n passed)
+
+-- from a place on, that place is the first, where it passes
+places_on : {A : Type 0} (test : A → Bool) (xs : List A) (low place : ℕ) → place < length xs
+    → places_from low test (drop place xs) ≡ (if passes test xs place then low ∷ places_from (suc low) test (drop (suc place) xs) else places_from (suc low) test (drop (suc place) xs))
+places_on test [] low place within = absurd (omega arith)
+places_on test (x ∷ xs) low zero within = refl
+places_on test (x ∷ xs) low (suc place) within = places_on test xs low place (omega arith)
+
+-- what is kept of the places so far, and what is left to be kept, where one more place is tried
+pub places_next : {A : Type 0} (test : A → Bool) (xs : List A) (place next : ℕ) (kept new : List ℕ) → place < length xs → next ≡ suc place
+    → kept ++ places_from place test (drop place xs) ≡ places_where test xs → passes test xs place ≡ true → new ≡ kept ++ place ∷ []
+    → new ++ places_from next test (drop next xs) ≡ places_where test xs
+places_next test xs place next kept new within after so_far passed pushed =
+    rw (after, pushed)
+    (append_assoc kept (place ∷ []) (places_from (suc place) test (drop (suc place) xs))
+    ∙ (ap (λ rest. kept ++ rest)
+    (sym (places_on test xs place place within
+    ∙ ap (λ p. if p then place ∷ places_from (suc place) test (drop (suc place) xs) else places_from (suc place) test (drop (suc place) xs)) passed))
+    ∙ so_far))
+
+pub places_skip : {A : Type 0} (test : A → Bool) (xs : List A) (place next : ℕ) (kept : List ℕ) → place < length xs → next ≡ suc place
+    → kept ++ places_from place test (drop place xs) ≡ places_where test xs → passes test xs place ≡ false → kept ++ places_from next test (drop next xs) ≡ places_where test xs
+places_skip test xs place next kept within after so_far passed =
+    rw after
+    (ap (λ rest. kept ++ rest)
+    (sym (places_on test xs place place within
+    ∙ ap (λ p. if p then place ∷ places_from (suc place) test (drop (suc place) xs) else places_from (suc place) test (drop (suc place) xs)) passed))
+    ∙ so_far)
+
+pub places_all : {A : Type 0} (test : A → Bool) (xs : List A) (place : ℕ) (kept : List ℕ) → length xs ≤ place
+    → kept ++ places_from place test (drop place xs) ≡ places_where test xs → kept ≡ places_where test xs
+places_all {A} test xs place kept past so_far = sym (append-nil kept) ∙ (ap (λ (rest : List A). kept ++ places_from place test rest) (sym (drop_all place xs past)) ∙ so_far)
 
 -- sorted, each place once
 rising_tail : (x : ℕ) (xs : List ℕ) → IsStrictlySortedBy nat_cmp (x ∷ xs) → Rising (suc x) xs

@@ -96,4 +96,4 @@ after_combination steps symbols from head f x term old first middle new whole ed
 
 pub ruleset walking = (append_assoc, append-nil)
 
-pub ruleset going = (append_assoc, append-nil, after_combination)
+pub ruleset going = (walking, after_combination)

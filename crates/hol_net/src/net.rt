@@ -12,7 +12,10 @@ use hol_terms::Term;
 use std::alloc::Global;
 use std::marker::Model;
 
-/// A net of patterns, as in nets.ml of HOL Light: which of a list of patterns fit a term is found without trying each.
+// So many patterns are tried one after the other; for more the tree is walked.
+const TRIED_LIMIT: usize = 6;
+
+/// A net of patterns, as in nets.ml of HOL Light: which of a list of patterns fit a term is found without trying each of many.
 #[derive(Drop)]
 pub struct Net {
     patterns: Vec<Term>,
@@ -61,8 +64,20 @@ impl Net {
     }
 
     /// The places, ascending, of the patterns that fit a term. The cost is that of the way through the term along the
-    /// patterns that agree with it so far, and of the patterns that are found. Refused: Memory.
+    /// patterns that agree with it so far, and of the patterns that are found; a few patterns are tried each. Refused: Memory.
     pub fn candidates(&self, alloc: Global, term: &Term) -> Result<Vec<usize>, Fault>
+        ensures ok { IfOk result (λ places. places.items ≡ places_where (λ pattern. fits pattern term.now) self.now) }
+        ensures err { IfErr result (λ fault. fault ≡ Memory) }
+    {
+        if self.patterns.len() <= TRIED_LIMIT {
+            tried(alloc, &self.patterns, term)
+        } else {
+            self.reached(alloc, term)
+        }
+    }
+
+    // The same, by a walk through the tree.
+    fn reached(&self, alloc: Global, term: &Term) -> Result<Vec<usize>, Fault>
         ensures ok { IfOk result (λ places. places.items ≡ places_where (λ pattern. fits pattern term.now) self.now) }
         ensures err { IfErr result (λ fault. fault ≡ Memory) }
     {
@@ -74,6 +89,21 @@ impl Net {
         places.dedup();
         fitting(alloc, &self.patterns, &places, term)
     }
+}
+
+// The places, ascending, of those of the patterns that fit a term, each of which is tried.
+#[tactic(auto, using(crate::proofs::Ascending::places_all))]
+fn tried(alloc: Global, patterns: &[Term], term: &Term) -> Result<Vec<usize>, Fault>
+    ensures ok { IfOk result (λ kept. kept.items ≡ places_where (λ pattern. fits pattern term.now) patterns.now) }
+    ensures err { IfErr result (λ fault. fault ≡ Memory) }
+{
+    let mut kept = Vec::new(alloc);
+    for place in 0..patterns.len() {
+        if fits_at(patterns, place, term) {
+            kept.push(place)?;
+        }
+    }
+    Ok(kept)
 }
 
 // Those of the places at which a pattern fits a term.

@@ -9,7 +9,7 @@ ghost use Rattle.hol_script_session.specs.Growth.{LeavesNone, MakesEquation, Mak
 use hol_kernel::Thm;
 use hol_model::Fault;
 use hol_syntax::Scope;
-use hol_syntax_print::text_of_sequent;
+use hol_syntax_print::push_sequent;
 use hol_terms::{Term, mk_eq};
 use std::alloc::Global;
 
@@ -38,10 +38,9 @@ fn sequent_line(
     ensures ok { IfOk result (λ line. IsLineOf line (scope_of scope.now) name.now (record { theory = []; hypotheses = hyps.now; conclusion = concl.now })) }
     ensures err { IfErr result (λ fault. fault ≡ Memory) }
 {
-    let sequent = text_of_sequent(alloc, scope, hyps, concl)?;
     let mut text = String::from_str(alloc, name)?;
     text.push_str(": ")?;
-    text.push_str(sequent.as_str())?;
+    push_sequent(alloc, scope, hyps, concl, &mut text)?;
     text.push_str("\n")?;
     Ok(TheoremLine {
         name: String::from_str(alloc, name)?,

@@ -220,7 +220,7 @@ pub(crate) fn variables_where_needed(
 // Whether a binder may capture: a type under it changes, or its variable is free in a new term. Nothing rests on the
 // answer but the time that the replacement takes.
 fn may_capture(term: &Term, replacing: &Replacing<'_>) -> bool {
-    if replacing.stays(term) {
+    if !term.has_binders() || replacing.stays(term) {
         return false;
     }
     match term.parts() {

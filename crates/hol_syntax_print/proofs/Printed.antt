@@ -15,9 +15,13 @@ use Rattle.hol_syntax_print.specs.Output.{Appends}
 pub joined : {a b c : List ℕ} {f g : List ℕ → List ℕ} → Appends a b f → Appends b c g → Appends a c (λ rest. f (g rest))
 joined {f} {g} h k = record { appended = λ rest. k.appended rest ∙ h.appended (g rest) }
 
+-- what is put at the end of a text, with nothing behind it
+pub appended : (old new : List ℕ) (f : List ℕ → List ℕ) → Appends old new f → new ≡ old ++ f []
+appended old new f h = sym (append-nil new) ∙ h.appended []
+
 -- what is put at the end of no text
 pub from_nothing : (old new : List ℕ) (f : List ℕ → List ℕ) → old ≡ [] → Appends old new f → new ≡ f []
-from_nothing old new f e h = sym (append-nil new) ∙ h.appended [] ∙ ap (λ o. o ++ f []) e
+from_nothing old new f e h = appended old new f h ∙ ap (λ o. o ++ f []) e
 
 -- one of the symbols, or a later one
 named_or : (name : List ℕ) (b : Bool) (text : List ℕ) (t u : Token) (more : Bool) → bytes_eq name text ≡ b → token_text t ≡ text

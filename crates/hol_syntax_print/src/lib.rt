@@ -8,4 +8,4 @@ mod printer;
 mod shape;
 
 pub use laws::{sequents_read_back, terms_read_back, types_read_back};
-pub use printer::{text_of_goal, text_of_sequent, text_of_term, text_of_type};
+pub use printer::{push_sequent, text_of_goal, text_of_sequent, text_of_term, text_of_type};

@@ -252,7 +252,26 @@ pub fn text_of_term(alloc: Global, scope: &Scope, term: &Term) -> Result<String,
     Ok(out)
 }
 
+// Puts the terms, a sign and the term behind it at the end of a text.
+fn print_around(
+    alloc: Global,
+    scope: &Scope,
+    terms: &[Term],
+    sign: &str,
+    concl: &Term,
+    out: &mut String,
+) -> Result<(), AllocError>
+    ensures { OnOk result (Appends (string_bytes out.old) (string_bytes out.new)
+        (λ rest. listed_bytes (scope_of scope.now) terms.now (sign.now ++ term_bytes (term_tree (scope_of scope.now) [] concl.now) rest))) }
+{
+    let mut binders = Innermost::new(alloc);
+    print_listed(&mut binders, scope, terms, out)?;
+    append(out, sign)?;
+    print_whole(&mut binders, scope, concl, out)
+}
+
 // The text of the terms, a sign and the term behind it.
+#[tactic(auto, using(crate::proofs::Printed::from_nothing))]
 fn text_around(
     alloc: Global,
     scope: &Scope,
@@ -262,12 +281,25 @@ fn text_around(
 ) -> Result<String, AllocError>
     ensures { IfOk result (λ text. string_bytes text ≡ listed_bytes (scope_of scope.now) terms.now (sign.now ++ term_bytes (term_tree (scope_of scope.now) [] concl.now) [])) }
 {
-    let mut binders = Innermost::new(alloc);
     let mut out = String::new(alloc);
-    print_listed(&mut binders, scope, terms, &mut out)?;
-    append(&mut out, sign)?;
-    print_whole(&mut binders, scope, concl, &mut out)?;
+    print_around(alloc, scope, terms, sign, concl, &mut out)?;
     Ok(out)
+}
+
+/// Puts the text of a sequent at the end of a text. Refused: Memory.
+#[tactic(auto, using(crate::proofs::Printed::appended))]
+pub fn push_sequent(
+    alloc: Global,
+    scope: &Scope,
+    hyps: &[Term],
+    concl: &Term,
+    out: &mut String,
+) -> Result<(), Fault>
+    ensures ok { OnOk result (string_bytes out.new ≡ string_bytes out.old ++ texts.text_of_sequent (scope_of scope.now) hyps.now concl.now) }
+    ensures err { IfErr result (λ fault. fault ≡ Memory) }
+{
+    print_around(alloc, scope, hyps, "|- ", concl, out)?;
+    Ok(())
 }
 
 /// The text of a sequent.

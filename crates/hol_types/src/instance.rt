@@ -12,7 +12,22 @@ pub fn is_instance(generic: &Ty, ty: &Ty) -> bool
     ensures instance { IsTrue result ↔ IsInstance generic.now ty.now }
     ensures value { result ≡ spec.is_instance generic.now ty.now }
 {
-    fits_generic(generic, ty, generic, ty)
+    fits_by_domain(generic, ty)
+}
+
+// The same. A domain is tested by itself, since no type variable stands before it: for the first one nothing is compared.
+#[tactic(auto, using(crate::proofs::Domains::domains))]
+fn fits_by_domain(generic: &Ty, ty: &Ty) -> bool
+    ensures { result ≡ spec.is_instance generic.now ty.now }
+{
+    match generic.parts() {
+        TypeParts::Variable(_) => true,
+        TypeParts::Function(a, b) => match ty.parts() {
+            TypeParts::Function(c, d) => fits_by_domain(a, c) && fits_generic(b, d, generic, ty),
+            _ => false,
+        },
+        _ => fits_generic(generic, ty, generic, ty),
+    }
 }
 
 // Whether the parts of a type stand where those of a generic type do, and for each type variable what first stands for
@@ -20,17 +35,22 @@ pub fn is_instance(generic: &Ty, ty: &Ty) -> bool
 fn fits_generic(generic: &Ty, ty: &Ty, whole_generic: &Ty, whole: &Ty) -> bool
     ensures { result ≡ spec.fits_generic whole_generic.now whole.now generic.now ty.now }
 {
-    match (generic.parts(), ty.parts()) {
-        (TypeParts::Variable(name), _) => match part_at(whole_generic, whole, name) {
+    match generic.parts() {
+        TypeParts::Variable(name) => match part_at(whole_generic, whole, name) {
             Some(part) => part.eq(ty),
             None => false,
         },
-        (TypeParts::Bool, TypeParts::Bool) => true,
-        (TypeParts::Function(a, b), TypeParts::Function(c, d)) => {
-            fits_generic(a, c, whole_generic, whole) && fits_generic(b, d, whole_generic, whole)
-        }
-        (TypeParts::Declared(a), TypeParts::Declared(b)) => a == b,
-        _ => false,
+        TypeParts::Bool => matches!(ty.parts(), TypeParts::Bool),
+        TypeParts::Function(a, b) => match ty.parts() {
+            TypeParts::Function(c, d) => {
+                fits_generic(a, c, whole_generic, whole) && fits_generic(b, d, whole_generic, whole)
+            }
+            _ => false,
+        },
+        TypeParts::Declared(a) => match ty.parts() {
+            TypeParts::Declared(b) => a == b,
+            _ => false,
+        },
     }
 }
 

@@ -2,12 +2,13 @@ use Rattle.std.proofs.Common.{◌&&◌, sym, ap, ◌∙◌}
 use Rattle.hol_model.specs.Terms.HolType.{function_type, is_instance}
 use Rattle.hol_model.specs.Texts.Reading.{quantifier_type}
 use Rattle.hol_syntax.specs.Building.{fits_truth}
-use Rattle.hol_syntax.proofs.QuantifierInstances.{at_variable, at_predicate_variable, at_predicate}
+use Rattle.hol_types.proofs.Domains.{variable_fits}
+use Rattle.hol_syntax.proofs.QuantifierInstances.{at_predicate_variable, at_predicate}
 use Rattle.hol_syntax.proofs.quantifier.is_quantifier_instance.Goals as goal
 
 pub returns-in-Variable : goal.returns-in-Variable
 returns-in-Variable c =
-    sym (ap (λ g. is_instance g (quantifier_type c.args.ty.now)) (sym c.in-Variable.ensures.value) ∙ at_variable c.in-Variable.field-0.now (quantifier_type c.args.ty.now))
+    sym (ap (λ g. is_instance g (quantifier_type c.args.ty.now)) (sym c.in-Variable.ensures.value) ∙ sym (variable_fits c.in-Variable.field-0.now (quantifier_type c.args.ty.now)))
 
 pub returns-in-Variable-parts : goal.returns-in-Variable-parts
 returns-in-Variable-parts c =

@@ -1,20 +1,22 @@
 use Rattle.std.proofs.Common.{rules, refl, sym, ap, arith, ◌∙◌, ◌<◌, ◌≡◌, List, Ok}
 use Rattle.std.proofs.lemmas.List.{drop_all}
 use Rattle.std.proofs.lemmas.Result.{err_from_is_err_and}
+use Rattle.hol_model.specs.declared.fault.Fault.TheVariants.{Memory}
 use Rattle.hol_model.specs.declared.limits.TheConstants.{DESCENTS_LIMIT}
 use Rattle.hol_model.specs.Terms.NamedTerm.{combination}
 use Rattle.hol_model.specs.Refining.Conversions.{first_is_refused, first_answers}
 use Rattle.hol_laws_refiners.proofs.Chains.{thenc_start, thenc_end}
 use Rattle.hol_laws_refiners.proofs.Repeating.{joined_defined, joined_tried}
 use Rattle.hol_tactic_exprs.specs.declared.conv.Conv.{Conv}
+use Rattle.hol_conv_rules.proofs.Making.{makes_nothing}
 use Rattle.hol_conv.specs.Leaves.{with_leaves, stands_for, thenc_of, orelsec_of}
 use Rattle.hol_conv.specs.Chains.{proved_by}
 use Rattle.hol_conv.proofs.Sizes.{size, size_of, sizes_of, size_in}
 use Rattle.hol_conv.proofs.Expressions.{then_stands, or_else_stands, then_size, or_else_size, rest-drop}
 use Rattle.hol_conv.proofs.Choosing.{chooses_next, chooses_answer, chooses_stop, chooses_end}
 use Rattle.hol_conv.proofs.Chaining.{chain-later, on-side-answers, on-side-equation}
-use Rattle.hol_conv.proofs.Asking.{known-function, known-argument, of-argument, known-later, asks-now, asks-later, still-answers, held-answer}
-use Rattle.hol_conv.proofs.Asking.{side-later, equation-later, carried, carried-answer, continued-twice}
+use Rattle.hol_conv.proofs.Asking.{known-function, known-argument, of-argument, known-later, asks-now, asks-later, answers-after, still-answers, held-answer}
+use Rattle.hol_conv.proofs.Asking.{side-later, equation-later, carried, carried-answer, carried-behind, continued-twice}
 use Rattle.hol_conv.proofs.Answering.{is-equation, reflects-leaf, first-part-refused, parts-too-deep, rand-refused, rator-refused, abs-refused}
 use Rattle.hol_conv.proofs.Arms.{argument-arm, function-arm, body-arm, parts-arm, try-arm, once-arm, once-answers, once-stops, depth-arm, depth-stops, thenc-on, thenc-off, thenc-equation}
 use Rattle.hol_conv.proofs.Arms.{first-on, first-off, link-on, link-off, link-stop, link-costs, link-equations, changed-arm, changed-makes, as-conv, sub-as-abs, starved-behind, starved-twice}
@@ -346,55 +348,69 @@ pub repeatc-begin_by-requires-clause-equation : goal.repeatc-begin_by-requires-c
 repeatc-begin_by-requires-clause-equation g t c =
     link-equations (Ok c.in-Ok.made) c.in-Ok.ensures.makes.continued c.in-Ok.ensures.converts
 
-pub repeatc-loop-chain-init : goal.repeatc-loop-chain-init
-repeatc-loop-chain-init g t c =
-    let makes = c.in-Ok.ensures.makes in
-    let begun = c.in_ok-chain.ensures in (
-      first-on c.in-Ok.made c.in_ok-chain.chain c.in-Ok.ensures.converts makes.continued begun.extends,
-      continued-twice makes.continued begun.continued,
-      begun.library,
-      begun.chain,
-    )
+pub repeatc-repeat_on-requires : goal.repeatc-repeat_on-requires
+repeatc-repeat_on-requires g t c =
+    let begun = c.in_ok-chain.ensures in
+    let asked = asks-later (g.met.L.Leaves.stays_ready c.args.self.now.leaves.now) c.requires.asked (continued-twice c.in-Ok.ensures.makes.continued begun.continued) begun.library in
+    let chain = begun.chain in
+    search rules
 
-pub repeatc-converted-next-requires : goal.repeatc-converted-next-requires
-repeatc-converted-next-requires g t c =
+pub repeatc-returns-clause-converts : goal.repeatc-returns-clause-converts
+repeatc-returns-clause-converts g t c =
+    let makes = c.in-Ok.ensures.makes in
+    let begun = c.in_ok-chain.ensures in
+    (carried-behind c.in_ok-chain.chain c.repeat_on.result (continued-twice makes.continued begun.continued)
+    (first-on c.in-Ok.made c.in_ok-chain.chain c.in-Ok.ensures.converts makes.continued begun.extends) c.repeat_on.ensures.converts).0
+
+pub repeatc-returns-clause-last : goal.repeatc-returns-clause-last
+repeatc-returns-clause-last g t c =
+    let makes = c.in-Ok.ensures.makes in
+    let begun = c.in_ok-chain.ensures in
+    (carried-behind c.in_ok-chain.chain c.repeat_on.result (continued-twice makes.continued begun.continued)
+    (first-on c.in-Ok.made c.in_ok-chain.chain c.in-Ok.ensures.converts makes.continued begun.extends) c.repeat_on.ensures.converts).1
+
+pub repeatc-returns-clause-makes : goal.repeatc-returns-clause-makes
+repeatc-returns-clause-makes g t c =
+    answers-after (continued-twice c.in-Ok.ensures.makes.continued c.in_ok-chain.ensures.continued) c.repeat_on.ensures.makes
+
+pub repeat_on-loop-chain-init : goal.repeat_on-loop-chain-init
+repeat_on-loop-chain-init g t c =
+    ((λ first so_far. so_far), (makes_nothing c.args.library.now Memory c.requires.asked.is_library).continued, c.requires.asked.is_library, c.requires.chain)
+
+pub repeat_on-converted-next-requires : goal.repeat_on-converted-next-requires
+repeat_on-converted-next-requires g t c =
     let asked = asks-now c.loop-chain.chain.current
     (g.met.L.Leaves.stays_ready c.args.self.now.leaves.now) c.requires.asked c.loop-chain.invariant.1 c.loop-chain.invariant.2
     c.loop-chain.invariant.3.held.known in
     search rules
 
-pub repeatc-link-requires-clause-chain : goal.repeatc-link-requires-clause-chain
-repeatc-link-requires-clause-chain g t c =
+pub repeat_on-link-requires-clause-chain : goal.repeat_on-link-requires-clause-chain
+repeat_on-link-requires-clause-chain g t c =
     chain-later c.converted-next.ensures.makes.continued c.loop-chain.invariant.3
 
-pub repeatc-link-requires-clause-equation : goal.repeatc-link-requires-clause-equation
-repeatc-link-requires-clause-equation g t c =
+pub repeat_on-link-requires-clause-equation : goal.repeat_on-link-requires-clause-equation
+repeat_on-link-requires-clause-equation g t c =
     link-equations c.converted-next.result c.converted-next.ensures.makes.continued c.converted-next.ensures.converts
 
-pub repeatc-returns-in-Ends-clause-converts : goal.repeatc-returns-in-Ends-clause-converts
-repeatc-returns-in-Ends-clause-converts g t c =
-    let so_far = joined_defined _ _ _ _ refl c.loop-chain.invariant.0 in
-    (link-off c.loop-chain.chain _ c.in-Ends.result so_far c.loop-chain.invariant.1 c.loop-chain.invariant.3.held.known
-    c.converted-next.ensures.converts c.converted-next.ensures.makes c.in-Ends.ensures.links).0
+pub repeat_on-returns-in-Ends-clause-converts : goal.repeat_on-returns-in-Ends-clause-converts
+repeat_on-returns-in-Ends-clause-converts g t c first begun =
+    let so_far = joined_defined _ _ _ _ refl (c.loop-chain.invariant.0 first begun) in
+    link-off c.loop-chain.chain _ c.in-Ends.result so_far c.loop-chain.invariant.1 c.loop-chain.invariant.3.held.known
+    c.converted-next.ensures.converts c.converted-next.ensures.makes c.in-Ends.ensures.links
 
-pub repeatc-returns-in-Ends-clause-last : goal.repeatc-returns-in-Ends-clause-last
-repeatc-returns-in-Ends-clause-last g t c =
-    let so_far = joined_defined _ _ _ _ refl c.loop-chain.invariant.0 in
-    (link-off c.loop-chain.chain _ c.in-Ends.result so_far c.loop-chain.invariant.1 c.loop-chain.invariant.3.held.known
-    c.converted-next.ensures.converts c.converted-next.ensures.makes c.in-Ends.ensures.links).1
-
-pub repeatc-loop-chain-smaller : goal.repeatc-loop-chain-smaller
-repeatc-loop-chain-smaller g t c =
+pub repeat_on-loop-chain-smaller : goal.repeat_on-loop-chain-smaller
+repeat_on-loop-chain-smaller g t c =
     link-costs c.converted-next.new.library.recorder.theory
     (proved_by c.converted-next.new.library.recorder.theory c.loop-chain.chain) c.args.t.now _ c.converted-next.result c.in-GoesOn.chain
     c.converted-next.ensures.converts c.in-GoesOn.ensures.links
 
-pub repeatc-loop-chain-preserved : goal.repeatc-loop-chain-preserved
-repeatc-loop-chain-preserved g t c =
-    let so_far = joined_tried _ _ _ _ (joined_defined _ _ _ _ refl c.loop-chain.invariant.0) in
+pub repeat_on-loop-chain-preserved : goal.repeat_on-loop-chain-preserved
+repeat_on-loop-chain-preserved g t c =
     let makes = c.converted-next.ensures.makes in
     let goes = c.in-GoesOn.ensures in (
-      link-on c.loop-chain.chain _ c.in-GoesOn.chain so_far c.loop-chain.invariant.1 c.converted-next.ensures.converts makes goes.links,
+      (λ first begun.
+          let so_far = joined_tried _ _ _ _ (joined_defined _ _ _ _ refl (c.loop-chain.invariant.0 first begun)) in
+          link-on c.loop-chain.chain _ c.in-GoesOn.chain so_far c.loop-chain.invariant.1 c.converted-next.ensures.converts makes goes.links),
       continued-twice c.loop-chain.invariant.1 (continued-twice makes.continued goes.continued),
       goes.library,
       goes.made,
@@ -472,68 +488,82 @@ top_depth_conv-returns-in_err-chain-clause-converts g t c =
     (starved-twice (Ok c.in_ok-begun.begun) c.sub_conv-under.result c.in_ok-begun.ensures.makes.continued
     c.in_ok-begun.ensures.converts c.sub_conv-under.ensures.converts c.in_err-chain.ensures.err)
 
-pub top_depth_conv-loop-chain-init : goal.top_depth_conv-loop-chain-init
-top_depth_conv-loop-chain-init g t c =
+pub top_depth_conv-top_depth_on-requires : goal.top_depth_conv-top_depth_on-requires
+top_depth_conv-top_depth_on-requires g t c =
+    let before = continued-twice c.in_ok-begun.ensures.makes.continued c.sub_conv-under.ensures.makes.continued in
+    let twice = c.in_ok-chain.ensures in
+    let asked = asks-later (g.met.L.Leaves.stays_ready c.args.self.now.leaves.now) c.requires.asked (continued-twice before twice.continued) twice.library in
+    let chain = twice.chain in
+    search rules
+
+pub top_depth_conv-returns-clause-converts : goal.top_depth_conv-returns-clause-converts
+top_depth_conv-returns-clause-converts g t c =
     let begun = c.in_ok-begun.ensures.makes in
     let under = c.sub_conv-under.ensures.makes in
     let side = side-later c.args.t.now c.in_ok-begun.begun under.continued c.right_of-right.ensures.right in
-    let twice = c.in_ok-chain.ensures in (
-      top-on c.sub_conv-under.result c.in-Ok.found c.in_ok-chain.chain (ap (with_leaves (g.L.Leaves.means c.args.self.now.leaves.now)) c.requires.whole) c.in_ok-begun.ensures.converts begun
-          c.right_of-right.ensures.right c.sub_conv-under.ensures.converts (c.in-Ok.ensures.changed _) under.continued (twice.extends _ side),
-      continued-twice (continued-twice begun.continued under.continued) twice.continued,
-      twice.library,
-      twice.chain,
-    )
+    let twice = c.in_ok-chain.ensures in
+    let so_far = top-on c.sub_conv-under.result c.in-Ok.found c.in_ok-chain.chain (ap (with_leaves (g.L.Leaves.means c.args.self.now.leaves.now)) c.requires.whole) c.in_ok-begun.ensures.converts begun
+    c.right_of-right.ensures.right c.sub_conv-under.ensures.converts (c.in-Ok.ensures.changed _) under.continued (twice.extends _ side) in
+    (carried-behind c.in_ok-chain.chain c.top_depth_on.result (continued-twice (continued-twice begun.continued under.continued) twice.continued) so_far c.top_depth_on.ensures.converts).0
 
-pub top_depth_conv-converted-again-requires : goal.top_depth_conv-converted-again-requires
-top_depth_conv-converted-again-requires g t c =
+pub top_depth_conv-returns-clause-makes : goal.top_depth_conv-returns-clause-makes
+top_depth_conv-returns-clause-makes g t c =
+    let before = continued-twice c.in_ok-begun.ensures.makes.continued c.sub_conv-under.ensures.makes.continued in
+    answers-after (continued-twice before c.in_ok-chain.ensures.continued) c.top_depth_on.ensures.makes
+
+pub top_depth_on-loop-chain-init : goal.top_depth_on-loop-chain-init
+top_depth_on-loop-chain-init g t c =
+    ((λ first so_far. so_far), (makes_nothing c.args.library.now Memory c.requires.asked.is_library).continued, c.requires.asked.is_library, c.requires.chain)
+
+pub top_depth_on-converted-again-requires : goal.top_depth_on-converted-again-requires
+top_depth_on-converted-again-requires g t c =
     let asked = asks-now c.loop-chain.chain.current
     (g.met.L.Leaves.stays_ready c.args.self.now.leaves.now) c.requires.asked c.loop-chain.invariant.1 c.loop-chain.invariant.2
     c.loop-chain.invariant.3.held.known in
     let sized = ap size c.requires.whole in
     search rules
 
-pub top_depth_conv-link-requires-clause-chain : goal.top_depth_conv-link-requires-clause-chain
-top_depth_conv-link-requires-clause-chain g t c =
+pub top_depth_on-link-requires-clause-chain : goal.top_depth_on-link-requires-clause-chain
+top_depth_on-link-requires-clause-chain g t c =
     chain-later c.converted-again.ensures.makes.continued c.loop-chain.invariant.3
 
-pub top_depth_conv-link-requires-clause-equation : goal.top_depth_conv-link-requires-clause-equation
-top_depth_conv-link-requires-clause-equation g t c =
+pub top_depth_on-link-requires-clause-equation : goal.top_depth_on-link-requires-clause-equation
+top_depth_on-link-requires-clause-equation g t c =
     link-equations c.converted-again.result c.converted-again.ensures.makes.continued c.converted-again.ensures.converts
 
-pub top_depth_conv-returns-in-Ends-clause-converts : goal.top_depth_conv-returns-in-Ends-clause-converts
-top_depth_conv-returns-in-Ends-clause-converts g t c =
-    let so_far = joined_defined _ _ _ _ refl c.loop-chain.invariant.0 in
-    (link-off c.loop-chain.chain _ c.in-Ends.result so_far c.loop-chain.invariant.1 c.loop-chain.invariant.3.held.known
-    c.converted-again.ensures.converts c.converted-again.ensures.makes c.in-Ends.ensures.links).0
+pub top_depth_on-returns-in-Ends-clause-converts : goal.top_depth_on-returns-in-Ends-clause-converts
+top_depth_on-returns-in-Ends-clause-converts g t c first begun =
+    let so_far = joined_defined _ _ _ _ refl (c.loop-chain.invariant.0 first begun) in
+    link-off c.loop-chain.chain _ c.in-Ends.result so_far c.loop-chain.invariant.1 c.loop-chain.invariant.3.held.known
+    c.converted-again.ensures.converts c.converted-again.ensures.makes c.in-Ends.ensures.links
 
-pub top_depth_conv-repeatc-here-requires : goal.top_depth_conv-repeatc-here-requires
-top_depth_conv-repeatc-here-requires g t c =
+pub top_depth_on-repeatc-here-requires : goal.top_depth_on-repeatc-here-requires
+top_depth_on-repeatc-here-requires g t c =
     let before = continued-twice c.loop-chain.invariant.1 (continued-twice c.converted-again.ensures.makes.continued c.in-GoesOn.ensures.continued) in
     let asked = asks-now c.in-GoesOn.chain.current (g.met.L.Leaves.stays_ready c.args.self.now.leaves.now) c.requires.asked before c.in-GoesOn.ensures.library c.in-GoesOn.ensures.made.held.known in
     let sized = ap size c.requires.whole in
     search rules
 
-pub top_depth_conv-link-requires-in-loop-chain-clause-chain : goal.top_depth_conv-link-requires-in-loop-chain-clause-chain
-top_depth_conv-link-requires-in-loop-chain-clause-chain g t c =
+pub top_depth_on-link-requires-in-loop-chain-clause-chain : goal.top_depth_on-link-requires-in-loop-chain-clause-chain
+top_depth_on-link-requires-in-loop-chain-clause-chain g t c =
     chain-later c.repeatc-here.ensures.makes.continued c.in-GoesOn.ensures.made
 
-pub top_depth_conv-link-requires-in-loop-chain-clause-equation : goal.top_depth_conv-link-requires-in-loop-chain-clause-equation
-top_depth_conv-link-requires-in-loop-chain-clause-equation g t c =
+pub top_depth_on-link-requires-in-loop-chain-clause-equation : goal.top_depth_on-link-requires-in-loop-chain-clause-equation
+top_depth_on-link-requires-in-loop-chain-clause-equation g t c =
     link-equations c.repeatc-here.result c.repeatc-here.ensures.makes.continued c.repeatc-here.ensures.converts
 
-pub top_depth_conv-returns-in-Ends-link-clause-converts : goal.top_depth_conv-returns-in-Ends-link-clause-converts
-top_depth_conv-returns-in-Ends-link-clause-converts g t c =
-    let so_far = joined_defined _ _ _ _ refl c.loop-chain.invariant.0 in
+pub top_depth_on-returns-in-Ends-link-clause-converts : goal.top_depth_on-returns-in-Ends-link-clause-converts
+top_depth_on-returns-in-Ends-link-clause-converts g t c first begun =
+    let so_far = joined_defined _ _ _ _ refl (c.loop-chain.invariant.0 first begun) in
     let before = continued-twice c.loop-chain.invariant.1 (continued-twice c.converted-again.ensures.makes.continued c.in-GoesOn.ensures.continued) in
     let so_far = joined_defined _ _ _ _ refl
     (link-on c.loop-chain.chain _ c.in-GoesOn.chain (joined_tried _ _ _ _ so_far) c.loop-chain.invariant.1 c.converted-again.ensures.converts
     c.converted-again.ensures.makes c.in-GoesOn.ensures.links) in
-    (link-stop c.in-GoesOn.chain _ c.in-Ends-link.result so_far before c.repeatc-here.ensures.converts c.repeatc-here.ensures.makes c.repeatc-here.ensures.last
-    c.in-Ends-link.ensures.links).0
+    link-stop c.in-GoesOn.chain _ c.in-Ends-link.result so_far before c.repeatc-here.ensures.converts c.repeatc-here.ensures.makes c.repeatc-here.ensures.last
+    c.in-Ends-link.ensures.links
 
-pub top_depth_conv-sub_conv-below-requires : goal.top_depth_conv-sub_conv-below-requires
-top_depth_conv-sub_conv-below-requires g t c =
+pub top_depth_on-sub_conv-below-requires : goal.top_depth_on-sub_conv-below-requires
+top_depth_on-sub_conv-below-requires g t c =
     let before = continued-twice c.loop-chain.invariant.1 (continued-twice c.converted-again.ensures.makes.continued c.in-GoesOn.ensures.continued) in
     let before = continued-twice before (continued-twice c.repeatc-here.ensures.makes.continued c.in-GoesOn-link.ensures.continued) in
     let asked = asks-now c.in-GoesOn-link.chain.current
@@ -541,18 +571,18 @@ top_depth_conv-sub_conv-below-requires g t c =
     c.in-GoesOn-link.ensures.made.held.known in
     search rules
 
-pub top_depth_conv-link-requires-in-loop-chain-2-clause-chain : goal.top_depth_conv-link-requires-in-loop-chain-2-clause-chain
-top_depth_conv-link-requires-in-loop-chain-2-clause-chain g t c =
+pub top_depth_on-link-requires-in-loop-chain-2-clause-chain : goal.top_depth_on-link-requires-in-loop-chain-2-clause-chain
+top_depth_on-link-requires-in-loop-chain-2-clause-chain g t c =
     chain-later c.sub_conv-below.ensures.makes.continued c.in-GoesOn-link.ensures.made
 
-pub top_depth_conv-link-requires-in-loop-chain-2-clause-equation : goal.top_depth_conv-link-requires-in-loop-chain-2-clause-equation
-top_depth_conv-link-requires-in-loop-chain-2-clause-equation g t c =
+pub top_depth_on-link-requires-in-loop-chain-2-clause-equation : goal.top_depth_on-link-requires-in-loop-chain-2-clause-equation
+top_depth_on-link-requires-in-loop-chain-2-clause-equation g t c =
     let below = changed-arm c.sub_conv-below.result c.changed-below.result c.sub_conv-below.ensures.converts (c.changed-below.ensures.changed _) in
     link-equations c.changed-below.result c.sub_conv-below.ensures.makes.continued below
 
-pub top_depth_conv-returns-in-Ends-link-2-clause-converts : goal.top_depth_conv-returns-in-Ends-link-2-clause-converts
-top_depth_conv-returns-in-Ends-link-2-clause-converts g t c =
-    let so_far = joined_defined _ _ _ _ refl c.loop-chain.invariant.0 in
+pub top_depth_on-returns-in-Ends-link-2-clause-converts : goal.top_depth_on-returns-in-Ends-link-2-clause-converts
+top_depth_on-returns-in-Ends-link-2-clause-converts g t c first begun =
+    let so_far = joined_defined _ _ _ _ refl (c.loop-chain.invariant.0 first begun) in
     let before = continued-twice c.loop-chain.invariant.1 (continued-twice c.converted-again.ensures.makes.continued c.in-GoesOn.ensures.continued) in
     let so_far = joined_defined _ _ _ _ refl
     (link-on c.loop-chain.chain _ c.in-GoesOn.chain (joined_tried _ _ _ _ so_far) c.loop-chain.invariant.1 c.converted-again.ensures.converts
@@ -565,18 +595,18 @@ top_depth_conv-returns-in-Ends-link-2-clause-converts g t c =
     (top-below c.sub_conv-below.result (ap (with_leaves (g.L.Leaves.means c.args.self.now.leaves.now)) c.requires.whole) c.sub_conv-below.ensures.converts)
     (c.changed-below.ensures.changed _) in
     let makes = changed-makes c.sub_conv-below.result c.changed-below.result c.sub_conv-below.ensures.makes c.changed-below.ensures.same in
-    (link-off c.in-GoesOn-link.chain _ c.in-Ends-link-2.result so_far before c.in-GoesOn-link.ensures.made.held.known
-    below makes c.in-Ends-link-2.ensures.links).0
+    link-off c.in-GoesOn-link.chain _ c.in-Ends-link-2.result so_far before c.in-GoesOn-link.ensures.made.held.known
+    below makes c.in-Ends-link-2.ensures.links
 
-pub top_depth_conv-returns-in-Ends-link-2-clause-makes : goal.top_depth_conv-returns-in-Ends-link-2-clause-makes
-top_depth_conv-returns-in-Ends-link-2-clause-makes g t c =
+pub top_depth_on-returns-in-Ends-link-2-clause-makes : goal.top_depth_on-returns-in-Ends-link-2-clause-makes
+top_depth_on-returns-in-Ends-link-2-clause-makes g t c =
     let before = continued-twice c.loop-chain.invariant.1 (continued-twice c.converted-again.ensures.makes.continued c.in-GoesOn.ensures.continued) in
     let before = continued-twice before (continued-twice c.repeatc-here.ensures.makes.continued c.in-GoesOn-link.ensures.continued) in
     let ends = c.in-Ends-link-2.ensures in
     record { library = ends.library; continued = continued-twice before (continued-twice c.sub_conv-below.ensures.makes.continued ends.continued); made = ends.made }
 
-pub top_depth_conv-loop-chain-smaller : goal.top_depth_conv-loop-chain-smaller
-top_depth_conv-loop-chain-smaller g t c =
+pub top_depth_on-loop-chain-smaller : goal.top_depth_on-loop-chain-smaller
+top_depth_on-loop-chain-smaller g t c =
     let first = link-costs c.converted-again.new.library.recorder.theory
     (proved_by c.converted-again.new.library.recorder.theory c.loop-chain.chain) c.args.t.now _ c.converted-again.result
     c.in-GoesOn.chain c.converted-again.ensures.converts c.in-GoesOn.ensures.links in
@@ -589,23 +619,24 @@ top_depth_conv-loop-chain-smaller g t c =
     c.in-GoesOn-link-2.ensures.links in
     omega (arith, first, second, third)
 
-pub top_depth_conv-loop-chain-preserved : goal.top_depth_conv-loop-chain-preserved
-top_depth_conv-loop-chain-preserved g t c =
-    let so_far = joined_defined _ _ _ _ refl c.loop-chain.invariant.0 in
-    let before = continued-twice c.loop-chain.invariant.1 (continued-twice c.converted-again.ensures.makes.continued c.in-GoesOn.ensures.continued) in
-    let so_far = joined_defined _ _ _ _ refl
-    (link-on c.loop-chain.chain _ c.in-GoesOn.chain (joined_tried _ _ _ _ so_far) c.loop-chain.invariant.1 c.converted-again.ensures.converts
-    c.converted-again.ensures.makes c.in-GoesOn.ensures.links) in
-    let so_far = joined_defined _ _ _ _ refl
-    (link-on c.in-GoesOn.chain _ c.in-GoesOn-link.chain so_far before c.repeatc-here.ensures.converts
-    c.repeatc-here.ensures.makes c.in-GoesOn-link.ensures.links) in
-    let before = continued-twice before (continued-twice c.repeatc-here.ensures.makes.continued c.in-GoesOn-link.ensures.continued) in
-    let below = changed-arm c.sub_conv-below.result c.changed-below.result
-    (top-below c.sub_conv-below.result (ap (with_leaves (g.L.Leaves.means c.args.self.now.leaves.now)) c.requires.whole) c.sub_conv-below.ensures.converts)
-    (c.changed-below.ensures.changed _) in
-    let makes = changed-makes c.sub_conv-below.result c.changed-below.result c.sub_conv-below.ensures.makes c.changed-below.ensures.same in
+pub top_depth_on-loop-chain-preserved : goal.top_depth_on-loop-chain-preserved
+top_depth_on-loop-chain-preserved g t c =
+    let once = continued-twice c.loop-chain.invariant.1 (continued-twice c.converted-again.ensures.makes.continued c.in-GoesOn.ensures.continued) in
+    let before = continued-twice once (continued-twice c.repeatc-here.ensures.makes.continued c.in-GoesOn-link.ensures.continued) in
     let goes = c.in-GoesOn-link-2.ensures in (
-      link-on c.in-GoesOn-link.chain _ c.in-GoesOn-link-2.chain (joined_tried _ _ _ _ so_far) before below makes goes.links,
+      (λ first begun.
+          let so_far = joined_defined _ _ _ _ refl (c.loop-chain.invariant.0 first begun) in
+          let so_far = joined_defined _ _ _ _ refl
+          (link-on c.loop-chain.chain _ c.in-GoesOn.chain (joined_tried _ _ _ _ so_far) c.loop-chain.invariant.1 c.converted-again.ensures.converts
+          c.converted-again.ensures.makes c.in-GoesOn.ensures.links) in
+          let so_far = joined_defined _ _ _ _ refl
+          (link-on c.in-GoesOn.chain _ c.in-GoesOn-link.chain so_far once c.repeatc-here.ensures.converts
+          c.repeatc-here.ensures.makes c.in-GoesOn-link.ensures.links) in
+          let below = changed-arm c.sub_conv-below.result c.changed-below.result
+          (top-below c.sub_conv-below.result (ap (with_leaves (g.L.Leaves.means c.args.self.now.leaves.now)) c.requires.whole) c.sub_conv-below.ensures.converts)
+          (c.changed-below.ensures.changed _) in
+          let makes = changed-makes c.sub_conv-below.result c.changed-below.result c.sub_conv-below.ensures.makes c.changed-below.ensures.same in
+          link-on c.in-GoesOn-link.chain _ c.in-GoesOn-link-2.chain (joined_tried _ _ _ _ so_far) before below makes goes.links),
       continued-twice before (continued-twice c.sub_conv-below.ensures.makes.continued goes.continued),
       goes.library,
       goes.made,

@@ -1,12 +1,13 @@
-use Rattle.std.proofs.Common.{◌+◌, ◌*◌, ◌-◌, drop, IsSome}
+use Rattle.std.proofs.Common.{ℕ, ◌+◌, ◌*◌, ◌-◌, drop, IsSome}
 use Rattle.hol_model.specs.declared.limits.TheConstants.{DESCENTS_LIMIT}
 use Rattle.hol_model.specs.Kernel.Rules.{dest_equation}
-use Rattle.hol_model.specs.Refining.Conversions.{repeatc, thenc, one_more, try_conv, top_depth_conv}
+use Rattle.hol_model.specs.Refining.Conversions.{repeatc}
 use Rattle.hol_laws_refiners.proofs.Chains.{ThencSoFar}
 use Rattle.hol_laws_refiners.proofs.Repeating.{JoinedSoFar}
 use Rattle.hol_theorem_library.specs.Library.{IsLibrary, IsContinued, store_in}
 use Rattle.hol_conv_rules.specs.Converted.{theorem_of, IsAnswerOf}
 use Rattle.hol_conv.specs.Leaves.{stands_for, all_stand_for, thenc_of, orelsec_of}
+use Rattle.hol_conv.specs.Answers.{top_depth_again}
 use Rattle.hol_conv.specs.Chains.{IsChainFrom, proved_by}
 use Rattle.hol_conv.proofs.Sizes.{size_of, sizes_of}
 use Rattle.hol_conv.proofs.Choosing.{ChoosesSoFar}
@@ -15,40 +16,46 @@ use Rattle.hol_conv.proofs.converting.Level.«+converted».Given as goal
 -- ---- the expression's size first, then the descents that are left
 
 abbrev pub decreases-converted : goal.decreases-converted
-decreases-converted g l = 10 * size_of l.conv.now + 5 * (DESCENTS_LIMIT - l.self.now.depth) + 3
+decreases-converted g l = 12 * size_of l.conv.now + 6 * (DESCENTS_LIMIT - l.self.now.depth) + 4
 
 abbrev pub decreases-thenc : goal.decreases-thenc
-decreases-thenc g l = 10 * (size_of l.first.now + sizes_of l.others.now) + 5 * (DESCENTS_LIMIT - l.self.now.depth) + 4
+decreases-thenc g l = 12 * (size_of l.first.now + sizes_of l.others.now) + 6 * (DESCENTS_LIMIT - l.self.now.depth) + 5
 
 abbrev pub decreases-orelsec : goal.decreases-orelsec
-decreases-orelsec g l = 10 * (size_of l.first.now + sizes_of l.others.now) + 5 * (DESCENTS_LIMIT - l.self.now.depth) + 4
+decreases-orelsec g l = 12 * (size_of l.first.now + sizes_of l.others.now) + 6 * (DESCENTS_LIMIT - l.self.now.depth) + 5
 
 abbrev pub decreases-repeatc : goal.decreases-repeatc
-decreases-repeatc g l = 10 * size_of l.conv.now + 5 * (DESCENTS_LIMIT - l.self.now.depth) + 4
+decreases-repeatc g l = 12 * size_of l.conv.now + 6 * (DESCENTS_LIMIT - l.self.now.depth) + 6
+
+abbrev pub decreases-repeat_on : goal.decreases-repeat_on
+decreases-repeat_on g l = 12 * size_of l.conv.now + 6 * (DESCENTS_LIMIT - l.self.now.depth) + 5
 
 abbrev pub decreases-below : goal.decreases-below
-decreases-below g l = 10 * size_of l.conv.now + 5 * (DESCENTS_LIMIT - (l.self.now.depth + 1)) + 4
+decreases-below g l = 12 * size_of l.conv.now + 6 * (DESCENTS_LIMIT - (l.self.now.depth + 1)) + 5
 
 abbrev pub decreases-rand_conv : goal.decreases-rand_conv
-decreases-rand_conv g l = 10 * size_of l.conv.now + 5 * (DESCENTS_LIMIT - l.self.now.depth)
+decreases-rand_conv g l = 12 * size_of l.conv.now + 6 * (DESCENTS_LIMIT - l.self.now.depth)
 
 abbrev pub decreases-rator_conv : goal.decreases-rator_conv
-decreases-rator_conv g l = 10 * size_of l.conv.now + 5 * (DESCENTS_LIMIT - l.self.now.depth)
+decreases-rator_conv g l = 12 * size_of l.conv.now + 6 * (DESCENTS_LIMIT - l.self.now.depth)
 
 abbrev pub decreases-abs_conv : goal.decreases-abs_conv
-decreases-abs_conv g l = 10 * size_of l.conv.now + 5 * (DESCENTS_LIMIT - l.self.now.depth)
+decreases-abs_conv g l = 12 * size_of l.conv.now + 6 * (DESCENTS_LIMIT - l.self.now.depth)
 
 abbrev pub decreases-sub_conv : goal.decreases-sub_conv
-decreases-sub_conv g l = 10 * size_of l.conv.now + 5 * (DESCENTS_LIMIT - l.self.now.depth) + 1
+decreases-sub_conv g l = 12 * size_of l.conv.now + 6 * (DESCENTS_LIMIT - l.self.now.depth) + 1
 
 abbrev pub decreases-depth_conv : goal.decreases-depth_conv
-decreases-depth_conv g l = 10 * size_of l.whole.now + 5 * (DESCENTS_LIMIT - l.self.now.depth) + 2
+decreases-depth_conv g l = 12 * size_of l.whole.now + 6 * (DESCENTS_LIMIT - l.self.now.depth) + 2
 
 abbrev pub decreases-once_depth_conv : goal.decreases-once_depth_conv
-decreases-once_depth_conv g l = 10 * size_of l.whole.now + 5 * (DESCENTS_LIMIT - l.self.now.depth) + 2
+decreases-once_depth_conv g l = 12 * size_of l.whole.now + 6 * (DESCENTS_LIMIT - l.self.now.depth) + 2
 
 abbrev pub decreases-top_depth_conv : goal.decreases-top_depth_conv
-decreases-top_depth_conv g l = 10 * size_of l.whole.now + 5 * (DESCENTS_LIMIT - l.self.now.depth) + 2
+decreases-top_depth_conv g l = 12 * size_of l.whole.now + 6 * (DESCENTS_LIMIT - l.self.now.depth) + 3
+
+abbrev pub decreases-top_depth_on : goal.decreases-top_depth_on
+decreases-top_depth_on g l = 12 * size_of l.whole.now + 6 * (DESCENTS_LIMIT - l.self.now.depth) + 2
 
 -- ---- loops
 
@@ -69,27 +76,34 @@ invariant-orelsec-loop-other g l =
     × IsContinued l.fn.library l.library
     × IsLibrary l.library
 
-abbrev pub invariant-repeatc-loop-chain : goal.invariant-repeatc-loop-chain
-invariant-repeatc-loop-chain g l =
-    JoinedSoFar l.fn.library.recorder.theory (store_in l.fn.library) (g.L.Leaves.hosts l.self.leaves.now) l.self.depth
-    l.fn.fuel.left (repeatc (stands_for (g.L.Leaves.means l.self.leaves.now) l.conv)) l.t l.fuel.left (repeatc (stands_for (g.L.Leaves.means l.self.leaves.now) l.conv))
-    (proved_by l.fn.library.recorder.theory l.chain) l.chain.current
+abbrev pub invariant-repeat_on-loop-chain : goal.invariant-repeat_on-loop-chain
+invariant-repeat_on-loop-chain g l =
+    ((first : ℕ)
+    → JoinedSoFar l.fn.library.recorder.theory (store_in l.fn.library) (g.L.Leaves.hosts l.self.leaves.now) l.self.depth
+    first (repeatc (stands_for (g.L.Leaves.means l.self.leaves.now) l.conv)) l.t l.fn.fuel.left (repeatc (stands_for (g.L.Leaves.means l.self.leaves.now) l.conv))
+    (proved_by l.fn.library.recorder.theory l.fn.chain) l.fn.chain.current
+    → JoinedSoFar l.fn.library.recorder.theory (store_in l.fn.library) (g.L.Leaves.hosts l.self.leaves.now) l.self.depth
+    first (repeatc (stands_for (g.L.Leaves.means l.self.leaves.now) l.conv)) l.t l.fuel.left (repeatc (stands_for (g.L.Leaves.means l.self.leaves.now) l.conv))
+    (proved_by l.fn.library.recorder.theory l.chain) l.chain.current)
     × IsContinued l.fn.library l.library
     × IsLibrary l.library
     × IsChainFrom l.library l.t l.chain
 
-abbrev pub decreases-repeatc-loop-chain : goal.decreases-repeatc-loop-chain
-decreases-repeatc-loop-chain g l = l.fuel.left
+abbrev pub decreases-repeat_on-loop-chain : goal.decreases-repeat_on-loop-chain
+decreases-repeat_on-loop-chain g l = l.fuel.left
 
-abbrev pub invariant-top_depth_conv-loop-chain : goal.invariant-top_depth_conv-loop-chain
-invariant-top_depth_conv-loop-chain g l =
-    JoinedSoFar l.fn.library.recorder.theory (store_in l.fn.library) (g.L.Leaves.hosts l.self.leaves.now) l.self.depth
-    l.fn.fuel.left (stands_for (g.L.Leaves.means l.self.leaves.now) l.whole) l.t l.fuel.left
-    (try_conv (thenc (stands_for (g.L.Leaves.means l.self.leaves.now) l.part) (one_more (top_depth_conv (stands_for (g.L.Leaves.means l.self.leaves.now) l.part)))))
-    (proved_by l.fn.library.recorder.theory l.chain) l.chain.current
+abbrev pub invariant-top_depth_on-loop-chain : goal.invariant-top_depth_on-loop-chain
+invariant-top_depth_on-loop-chain g l =
+    ((first : ℕ)
+    → JoinedSoFar l.fn.library.recorder.theory (store_in l.fn.library) (g.L.Leaves.hosts l.self.leaves.now) l.self.depth
+    first (stands_for (g.L.Leaves.means l.self.leaves.now) l.whole) l.t l.fn.fuel.left (top_depth_again (stands_for (g.L.Leaves.means l.self.leaves.now) l.part))
+    (proved_by l.fn.library.recorder.theory l.fn.chain) l.fn.chain.current
+    → JoinedSoFar l.fn.library.recorder.theory (store_in l.fn.library) (g.L.Leaves.hosts l.self.leaves.now) l.self.depth
+    first (stands_for (g.L.Leaves.means l.self.leaves.now) l.whole) l.t l.fuel.left (top_depth_again (stands_for (g.L.Leaves.means l.self.leaves.now) l.part))
+    (proved_by l.fn.library.recorder.theory l.chain) l.chain.current)
     × IsContinued l.fn.library l.library
     × IsLibrary l.library
     × IsChainFrom l.library l.t l.chain
 
-abbrev pub decreases-top_depth_conv-loop-chain : goal.decreases-top_depth_conv-loop-chain
-decreases-top_depth_conv-loop-chain g l = l.fuel.left
+abbrev pub decreases-top_depth_on-loop-chain : goal.decreases-top_depth_on-loop-chain
+decreases-top_depth_on-loop-chain g l = l.fuel.left

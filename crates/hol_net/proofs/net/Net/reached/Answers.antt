@@ -5,7 +5,7 @@ use Rattle.hol_model.specs.Rewrites.Matching.{fits}
 use Rattle.hol_net.specs.Tree.{steps_of, symbols_of, nodes_after, all_places}
 use Rattle.hol_model.specs.Rewrites.Places.{places_where, passes}
 use Rattle.hol_net.proofs.Holding.{candidates_are, places_wanted}
-use Rattle.hol_net.proofs.net.Net.candidates.Goals as goal
+use Rattle.hol_net.proofs.net.Net.reached.Goals as goal
 
 pub returns-clause-ok : goal.returns-clause-ok
 returns-clause-ok c =
