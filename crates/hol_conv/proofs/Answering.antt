@@ -18,7 +18,7 @@ use Rattle.hol_laws_refiners.proofs.Spending.{converts-spends}
 use Rattle.hol_laws_refiners.proofs.Equations.{conversions-answer-equations, equation-sides}
 use Rattle.hol_laws_refiners.proofs.Repeating.{onto}
 use Rattle.hol_laws_refiners.proofs.Chains.{ThencSoFar}
-use Rattle.hol_conv_rules.specs.Makes.{Joins}
+use Rattle.hol_conv.specs.Makes.{Joins}
 use Rattle.hol_conv.specs.Parts.{AreParts, AreBoundParts, RefusesParts, is_no_combination, combination_is_too_deep, RefusesBoundParts, is_no_abstraction, abstraction_is_too_deep}
 use Rattle.hol_conv.specs.Chains.{Reflects, without_step, by_refl, FinishesBy, Tries}
 

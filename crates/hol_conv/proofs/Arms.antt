@@ -22,9 +22,9 @@ use Rattle.hol_laws_refiners.proofs.Spending.{converts-spends}
 use Rattle.hol_journal.specs.Journal.{Recorded, theorem_in}
 use Rattle.hol_theorem_library.specs.Library.{IsContinued, store_in}
 use Rattle.hol_theorem_library.specs.declared.library.Library.{Library}
-use Rattle.hol_conv_rules.specs.Makes.{Joins, IsRightSide}
-use Rattle.hol_conv_rules.specs.declared.converted.Converted.{Converted}
-use Rattle.hol_conv_rules.specs.Converted.{theorem_of, answered, IsAnswerOf, MakesAnswer}
+use Rattle.hol_conv.specs.Makes.{Joins, IsRightSide}
+use Rattle.hol_conv.specs.declared.converted.Converted.{Converted}
+use Rattle.hol_conv.specs.Converted.{theorem_of, answered, IsAnswerOf, MakesAnswer}
 use Rattle.hol_conv.specs.Answers.{ConvertsOver, AnswersOver}
 use Rattle.hol_conv.specs.Parts.{AreParts, AreBoundParts}
 use Rattle.hol_conv.specs.Chains.{Tries, Links, IsExtended, proved_by}

@@ -15,10 +15,10 @@ use Rattle.hol_theorem_store.specs.Store.{stored_of}
 use Rattle.hol_theorem_store.specs.declared.store.Store.{Store}
 use Rattle.hol_theorem_library.specs.Library.{IsLibrary, IsContinued, store_in}
 use Rattle.hol_theorem_library.specs.declared.library.Library.{Library}
-use Rattle.hol_conv_rules.specs.Makes.{Makes, IsRightSide}
-use Rattle.hol_conv_rules.specs.declared.converted.Converted.{Converted}
-use Rattle.hol_conv_rules.specs.declared.converted.Converted.TheVariants.{Same, Changed}
-use Rattle.hol_conv_rules.specs.Converted.{theorem_of, answered, IsAnswerOf, IsHeldIn, MakesAnswer}
+use Rattle.hol_conv.specs.Makes.{Makes, IsRightSide}
+use Rattle.hol_conv.specs.declared.converted.Converted.{Converted}
+use Rattle.hol_conv.specs.declared.converted.Converted.TheVariants.{Same, Changed}
+use Rattle.hol_conv.specs.Converted.{theorem_of, answered, IsAnswerOf, IsHeldIn, MakesAnswer}
 use Rattle.hol_laws_refiners.proofs.Repeating.{IsFinal, JoinedSoFar}
 use Rattle.hol_conv.specs.Answers.{IsAsked, AnswersOver, AnswersBehind}
 use Rattle.hol_conv.specs.Chains.{proved_by}

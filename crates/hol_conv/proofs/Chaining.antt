@@ -18,11 +18,11 @@ use Rattle.hol_journal.specs.Journal.{Recorded, IsMade, theorem_in}
 use Rattle.hol_journal.proofs.GrowthLemmas.{journals-grow}
 use Rattle.hol_theorem_library.specs.Library.{IsContinued}
 use Rattle.hol_theorem_library.specs.declared.library.Library.{Library}
-use Rattle.hol_conv_rules.specs.Makes.{Joins, IsRightSide}
-use Rattle.hol_conv_rules.specs.declared.converted.Converted.{Converted}
-use Rattle.hol_conv_rules.specs.declared.converted.Converted.TheVariants.{Same, Changed}
-use Rattle.hol_conv_rules.specs.Converted.{same_theorem, theorem_of, answered, changed_by, IsAnswerOf}
-use Rattle.hol_conv_rules.proofs.Same.{roomy-refl, roomless-refl, same-joined, same-side}
+use Rattle.hol_conv.specs.Makes.{Joins, IsRightSide}
+use Rattle.hol_conv.specs.declared.converted.Converted.{Converted}
+use Rattle.hol_conv.specs.declared.converted.Converted.TheVariants.{Same, Changed}
+use Rattle.hol_conv.specs.Converted.{same_theorem, theorem_of, answered, changed_by, IsAnswerOf}
+use Rattle.hol_conv.proofs.Same.{roomy-refl, roomless-refl, same-joined, same-side}
 use Rattle.hol_conv.specs.Chains.{Equates, LeadTo, lead_nowhere, theorems, proved_by, Reflects, without_step, by_refl, Finishes, FinishesBy, IsExtended, IsChain, IsChainFrom, BeginsAt, Settles}
 use Rattle.hol_conv.specs.declared.chain.Chain.{Chain}
 use Rattle.hol_conv.proofs.Leading.{leads-behind}

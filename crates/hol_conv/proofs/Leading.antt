@@ -12,7 +12,7 @@ use Rattle.hol_laws_refiners.specs.Laws.{IsEquationOf}
 use Rattle.hol_laws_refiners.proofs.Equations.{equation-sides}
 use Rattle.hol_journal.specs.Journal.{Recorded}
 use Rattle.hol_journal.proofs.Showing.{refused-is, concluded-is}
-use Rattle.hol_conv_rules.specs.Makes.{Joins, Meets, IsRightSide}
+use Rattle.hol_conv.specs.Makes.{Joins, Meets, IsRightSide}
 use Rattle.hol_conv.specs.Chains.{Equates, LeadTo, lead_nowhere, lead_on, LeadUpTo, Reflects, without_step, by_refl}
 use Rattle.hol_conv.proofs.Answering.{some-sides}
 

@@ -1,3 +1,11 @@
+pub mod Making
+pub mod Joining
+pub mod RightSides
+pub mod OneSteps
+pub mod StoredRules
+pub mod HostEquations
+pub mod Same
+pub mod Meeting
 pub mod Sizes
 pub mod Choosing
 pub mod Answering

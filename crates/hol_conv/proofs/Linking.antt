@@ -14,9 +14,9 @@ use Rattle.hol_model.specs.Refining.Conversions.{Conversion, one_more, all_conv,
 use Rattle.hol_laws_refiners.proofs.Costs.{converts-costs}
 use Rattle.hol_laws_refiners.proofs.Spending.{converts-spends}
 use Rattle.hol_laws_refiners.proofs.Repeating.{IsFinal, JoinedSoFar, joined_tried, joined_next, joined_end, joined_stop, joined_starves}
-use Rattle.hol_conv_rules.specs.Makes.{Joins}
-use Rattle.hol_conv_rules.specs.declared.converted.Converted.{Converted}
-use Rattle.hol_conv_rules.specs.Converted.{answered}
+use Rattle.hol_conv.specs.Makes.{Joins}
+use Rattle.hol_conv.specs.declared.converted.Converted.{Converted}
+use Rattle.hol_conv.specs.Converted.{answered}
 use Rattle.hol_conv.specs.Chains.{Reflects, without_step, by_refl, FinishesBy, Links, proved_by}
 use Rattle.hol_conv.specs.declared.chain.Chain.{Chain}
 use Rattle.hol_conv.specs.declared.chain.Linked.TheVariants.{GoesOn, Ends}

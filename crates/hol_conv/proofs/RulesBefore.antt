@@ -3,8 +3,8 @@ use Rattle.std.proofs.Common.{◌≡◌, List, [], ◌∷◌, ◌++◌, Bool, tr
 use Rattle.std.proofs.lemmas.List.Elements.{All-push}
 use Rattle.hol_theorem_library.specs.Library.{IsLibrary, IsContinued}
 use Rattle.hol_theorem_library.specs.declared.library.Library.{Library}
-use Rattle.hol_conv_rules.specs.declared.prepared.NamedRules.{NamedRules}
-use Rattle.hol_conv_rules.specs.Prepared.{IsPrepared, ArePrepared, stay-prepared}
+use Rattle.hol_conv.specs.declared.prepared.NamedRules.{NamedRules}
+use Rattle.hol_conv.specs.Prepared.{IsPrepared, ArePrepared, stay-prepared}
 use Rattle.hol_conv.specs.Prepares.{Prepares}
 
 -- a name that has no rules

@@ -10,7 +10,7 @@ use Rattle.hol_model.specs.Refining.HostFunctions.{HostConversions}
 use Rattle.hol_model.specs.Refining.Conversions.{Conversion, Converts, spends_step, no_step_is_left}
 use Rattle.hol_tactic_exprs.specs.Expressions.{conversion_of}
 use Rattle.hol_tactic_exprs.specs.declared.conv.Conv.{Conv, All, No, Beta, Rewr, Host, Then', OrElse', Prefixed'}
-use Rattle.hol_conv_rules.specs.OneStep.{ConvertsInStep}
+use Rattle.hol_conv.specs.OneStep.{ConvertsInStep}
 use Rattle.hol_conv.specs.Leaves.{stands_for, IsLeaf}
 use Rattle.hol_conv.proofs.Expressions.{with-same-leaves}
 

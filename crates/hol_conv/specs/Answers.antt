@@ -9,8 +9,8 @@ use Rattle.hol_laws_refiners.proofs.Repeating.{IsFinal, JoinedSoFar}
 use Rattle.hol_journal.specs.Journal.{Recorded, theorem_in}
 use Rattle.hol_theorem_library.specs.Library.{IsLibrary, store_in}
 use Rattle.hol_theorem_library.specs.declared.library.Library.{Library}
-use Rattle.hol_conv_rules.specs.declared.converted.Converted.{Converted}
-use Rattle.hol_conv_rules.specs.Converted.{answered}
+use Rattle.hol_conv.specs.declared.converted.Converted.{Converted}
+use Rattle.hol_conv.specs.Converted.{answered}
 use Rattle.hol_conv.specs.Chains.{proved_by}
 use Rattle.hol_conv.specs.declared.chain.Chain.{Chain}
 

@@ -13,8 +13,8 @@ use Rattle.hol_model.specs.Refining.Conversions.{is_caught}
 use Rattle.hol_laws_refiners.proofs.Repeating.{joined_from}
 use Rattle.hol_journal.specs.Journal.{Recorded, IsMade}
 use Rattle.hol_theorem_library.specs.declared.library.Library.{Library}
-use Rattle.hol_conv_rules.specs.Makes.{Joins, IsRightSide}
-use Rattle.hol_conv_rules.specs.Converted.{same_theorem, answered, IsAnswerOf}
+use Rattle.hol_conv.specs.Makes.{Joins, IsRightSide}
+use Rattle.hol_conv.specs.Converted.{same_theorem, answered, IsAnswerOf}
 use Rattle.hol_conv.specs.declared.chain.Chain.{Chain}
 use Rattle.hol_conv.specs.declared.chain.Linked.{Linked}
 use Rattle.hol_conv.specs.declared.chain.Linked.TheVariants.{GoesOn, Ends}

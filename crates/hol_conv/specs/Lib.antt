@@ -1,3 +1,8 @@
+pub mod Makes
+pub mod OneStep
+pub mod Prepared
+pub mod HostAnswers
+pub mod Converted
 pub mod Leaves
 pub mod Answers
 pub mod Chains

@@ -2,8 +2,8 @@
 use Rattle.std.specs.Prelude.{List}
 use Rattle.hol_theorem_library.specs.Library.{IsLibrary, IsContinued}
 use Rattle.hol_theorem_library.specs.declared.library.Library.{Library}
-use Rattle.hol_conv_rules.specs.declared.prepared.NamedRules.{NamedRules}
-use Rattle.hol_conv_rules.specs.Prepared.{ArePrepared}
+use Rattle.hol_conv.specs.declared.prepared.NamedRules.{NamedRules}
+use Rattle.hol_conv.specs.Prepared.{ArePrepared}
 
 -- it is a library still, its journal alone has grown, and the rules are ready for it
 pub record Prepares (old new : Library) (prepared : List NamedRules) : Type 0 where

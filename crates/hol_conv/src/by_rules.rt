@@ -1,7 +1,7 @@
 // Rewriting by rules in place of the conversions without parts.
 
+use crate::conversions::rules_conv;
 use crate::leaves::{Leaves, Made};
-use hol_conv_rules::rules_conv;
 use hol_host::Converters;
 use hol_journal::Rec;
 use hol_model::Fault;
@@ -21,7 +21,7 @@ pub(crate) struct ByRules<'a, H> {
 impl<'a, H: Converters> Leaves for ByRules<'a, H> {
     ghost use Rattle.hol_model.specs.Refining.Conversions as conversions;
     ghost use Rattle.hol_prelude_derivations.specs.Derivations.{theorems};
-    ghost use Rattle.hol_conv_rules.specs.Prepared.{AreReady, stay-ready};
+    ghost use Rattle.hol_conv.specs.Prepared.{AreReady, stay-ready};
 
     ghost means = { λ leaves conversion. conversions.rules_conv (theorems leaves.rules.now) };
 

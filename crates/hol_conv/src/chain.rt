@@ -12,14 +12,13 @@ ghost use Rattle.hol_laws_refiners.proofs.Repeating.{joined_from};
 ghost use Rattle.hol_journal.specs.Journal.{IsMade, theorem_in};
 ghost use Rattle.hol_theorem_library.specs.Library.{IsLibrary, IsContinued};
 ghost use Rattle.hol_theorem_library.specs.declared.library.Library as library;
-ghost use Rattle.hol_conv_rules.specs.Makes.{Makes, Joins, IsRightSide};
-ghost use Rattle.hol_conv_rules.specs.Converted.{theorem_of, answered, IsAnswerOf, MakesAnswer};
+ghost use Rattle.hol_conv.specs.Makes.{Makes, Joins, IsRightSide};
+ghost use Rattle.hol_conv.specs.Converted.{theorem_of, answered, IsAnswerOf, MakesAnswer};
 ghost use Rattle.hol_conv.specs.Chains as chains;
 ghost use Rattle.hol_conv.specs.Chains.{proved_by, LeadUpTo, IsChain, BeginsAt, IsChainFrom, Settles, Reflects, Finishes, Tries, IsExtended, Links, LinksMade};
 
-use hol_conv_rules::{
-    Converted, as_answer, only_changed, refl_known, right_side, theorem, trans_known, unchanged,
-};
+use crate::converted::{Converted, as_answer, only_changed, theorem, unchanged};
+use crate::joins::{refl_known, right_side, trans_known};
 use hol_journal::Rec;
 use hol_model::Fault;
 use hol_tactic_exprs::{Fuel, is_caught};

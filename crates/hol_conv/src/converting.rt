@@ -4,18 +4,18 @@ ghost use Rattle.hol_model.specs.declared.limits.TheConstants.{DESCENTS_LIMIT};
 ghost use Rattle.hol_model.specs.Refining.Conversions as conversions;
 ghost use Rattle.hol_laws_refiners.proofs.Repeating.{IsFinal};
 ghost use Rattle.hol_tactic_exprs.specs.Expressions.{conversion_of};
-ghost use Rattle.hol_conv_rules.specs.Makes.{Makes};
-ghost use Rattle.hol_conv_rules.specs.Converted.{answered, MakesAnswer};
+ghost use Rattle.hol_conv.specs.Makes.{Makes};
+ghost use Rattle.hol_conv.specs.Converted.{answered, MakesAnswer};
 ghost use Rattle.hol_conv.specs.Leaves.{IsLeaf, stands_for, thenc_of, orelsec_of};
 ghost use Rattle.hol_conv.specs.Answers.{IsAsked, ConvertsOver, AnswersOver, AnswersBehind, top_depth_again};
 ghost use Rattle.hol_conv.specs.Chains.{IsChainFrom};
 
 use crate::chain::{Chain, Linked, begin_by, begin_twice, changed, link, or_same, same};
-use crate::leaves::{Leaves, Made};
-use crate::parts::{abstraction, combination};
-use hol_conv_rules::{
+use crate::converted::{
     Converted, as_answer, of_argument, of_body, of_function, of_parts, right_of, then, theorem,
 };
+use crate::leaves::{Leaves, Made};
+use crate::parts::{abstraction, combination};
 use hol_model::{DESCENTS_LIMIT, Fault};
 use hol_tactic_exprs::{Conv, Fuel, Prefix, is_caught};
 use hol_terms::{Parts, Term};

@@ -3,7 +3,7 @@ ghost use Rattle.hol_model.specs.Refining.Conversions.{Conversion};
 ghost use Rattle.hol_model.specs.Refining.HostFunctions.{HostConversions};
 ghost use Rattle.hol_theorem_library.specs.Library.{IsContinued};
 ghost use Rattle.hol_theorem_library.specs.declared.library.Library as library;
-ghost use Rattle.hol_conv_rules.specs.Makes.{Makes};
+ghost use Rattle.hol_conv.specs.Makes.{Makes};
 ghost use Rattle.std.specs.Prelude.{ℕ};
 ghost use Rattle.hol_conv.specs.Leaves.{IsLeaf, stands_for};
 ghost use Rattle.hol_conv.specs.Answers.{IsAsked, ConvertsOver};

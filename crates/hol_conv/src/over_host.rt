@@ -4,14 +4,17 @@ ghost use Rattle.hol_model.specs.Logic.KnownTerm.{is_known};
 ghost use Rattle.hol_tactic_exprs.specs.Expressions.{conversion_of};
 ghost use Rattle.hol_journal.specs.Journal.{theorem_in};
 ghost use Rattle.hol_theorem_library.specs.Library.{IsLibrary, store_in};
-ghost use Rattle.hol_conv_rules.specs.Makes.{Makes};
-ghost use Rattle.hol_conv_rules.specs.OneStep.{ConvertsInStep, RewritesByName};
-ghost use Rattle.hol_conv_rules.specs.Prepared.{ArePrepared};
+ghost use Rattle.hol_conv.specs.Makes.{Makes};
+ghost use Rattle.hol_conv.specs.OneStep.{ConvertsInStep, RewritesByName};
+ghost use Rattle.hol_conv.specs.Prepared.{ArePrepared};
 ghost use Rattle.hol_conv.specs.Leaves.{IsLeaf};
 
+use crate::conversions::beta_conv;
+use crate::hosts::host_conv;
+use crate::joins::refl_known;
 use crate::leaves::{Leaves, Made};
+use crate::prepared::{NamedRules, prepared_rewr_conv, rewr_conv};
 use crate::preparing::prepared_for;
-use hol_conv_rules::{NamedRules, beta_conv, host_conv, prepared_rewr_conv, refl_known, rewr_conv};
 use hol_host::Converters;
 use hol_model::Fault;
 use hol_tactic_exprs::{Conv, Fuel};
@@ -26,7 +29,7 @@ pub(crate) struct OverHost<'a, H> {
 }
 
 impl<'a, H: Converters> Leaves for OverHost<'a, H> {
-    ghost use Rattle.hol_conv_rules.specs.Prepared.{ArePrepared, stay-prepared};
+    ghost use Rattle.hol_conv.specs.Prepared.{ArePrepared, stay-prepared};
 
     ghost means = { λ leaves conversion. conversion };
 

@@ -2,10 +2,10 @@
 ghost use Rattle.std.specs.Prelude.{IfSome};
 ghost use Rattle.hol_theorem_library.specs.Library.{IsLibrary};
 ghost use Rattle.hol_theorem_library.specs.declared.library.Library as library;
-ghost use Rattle.hol_conv_rules.specs.Prepared.{ArePrepared, IsPreparedFor};
+ghost use Rattle.hol_conv.specs.Prepared.{ArePrepared, IsPreparedFor};
 ghost use Rattle.hol_conv.specs.Prepares.{Prepares};
 
-use hol_conv_rules::{NamedRules, rules_named};
+use crate::prepared::{NamedRules, rules_named};
 use hol_tactic_exprs::Conv;
 use hol_theorem_library::Library;
 

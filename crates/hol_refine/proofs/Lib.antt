@@ -1,3 +1,13 @@
+pub mod Depths
+pub mod Goals
+pub mod Among
+pub mod Fitting
+pub mod Instances
+pub mod TakenNames
+pub mod Primes
+pub mod NameSums
+pub mod FreshAnswers
+pub mod KnownGoals
 pub mod Running
 pub mod Gathering
 pub mod Extending

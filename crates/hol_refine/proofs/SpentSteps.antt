@@ -13,7 +13,7 @@ use Rattle.hol_model.specs.Refining.Conversions.{Conversion, Converts}
 use Rattle.hol_model.specs.Refining.Refiners.{Leaf}
 use Rattle.hol_model.specs.Refining.Combinators.{leaf, at, Runs, no_step_is_left}
 use Rattle.hol_just.specs.declared.goal.Step as code_step
-use Rattle.hol_refine_table.specs.Answers.{step_in}
+use Rattle.hol_refine.specs.TableAnswers.{step_in}
 use Rattle.hol_combine.specs.Answers.{answer_of}
 
 -- what a conversion answers over the same theory and store

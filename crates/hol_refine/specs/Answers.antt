@@ -16,7 +16,7 @@ use Rattle.hol_model.specs.Refining.Combinators.{leaf, at, Runs}
 use Rattle.hol_just.specs.Steps.{goal_of}
 use Rattle.hol_just.specs.declared.goal.Goal as code_goal
 use Rattle.hol_just.specs.declared.goal.Step as code_step
-use Rattle.hol_refine_table.specs.Answers.{step_in}
+use Rattle.hol_refine.specs.TableAnswers.{step_in}
 use Rattle.hol_host.specs.Host.{HostRefiners, host_of}
 use Rattle.hol_theorem_library.specs.Library.{store_in}
 use Rattle.hol_theorem_library.specs.declared.library.Library.{Library}

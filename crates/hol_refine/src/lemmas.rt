@@ -8,17 +8,17 @@ ghost use Rattle.hol_model.specs.Refining.Refiners as refiners;
 ghost use Rattle.hol_laws_refiners.specs.Laws.{IsEquationOf};
 ghost use Rattle.hol_just.specs.Steps.{goal_of};
 ghost use Rattle.hol_journal.specs.Journal.{IsMade};
-ghost use Rattle.hol_refine_table.specs.Answers.{step_in, AnswersStep};
+ghost use Rattle.hol_refine.specs.TableAnswers.{step_in, AnswersStep};
 ghost use Rattle.hol_theorem_library.specs.Library.{IsLibrary, store_in};
 ghost use Rattle.hol_refine.specs.Growth.{IsExtended};
 ghost use Rattle.hol_refine.specs.Answers.{AnswersConverted, AnswersProved};
 
+use crate::assumed::are_assumed;
 use crate::steps::{converted, proved};
 use hol_equal::equality::equation_parts;
 use hol_journal::Rec;
 use hol_just::{Goal, Step};
 use hol_model::Fault;
-use hol_refine_table::are_assumed;
 use hol_theorem_library::Library;
 
 // One lemma more, behind the others. Refused, where nothing changes: Memory.

@@ -11,7 +11,7 @@ ghost use Rattle.hol_refine.specs.Answers.{AreNamedRules};
 use crate::naming::theorems_named;
 use hol_journal::Rec;
 use hol_model::Fault;
-use hol_rewrite_rules::rules_of;
+use hol_rewrite::rules_of;
 use hol_theorem_library::{Library, libraries_continue};
 
 // The rules of a theorem, in order. Refused as `rules_of`.

@@ -7,11 +7,11 @@ ghost use Rattle.hol_model.specs.Goals.Justifications as trees;
 ghost use Rattle.hol_model.specs.Goals.Justifications.{by_rule};
 ghost use Rattle.hol_model.specs.Refining.Refiners.{converted, proved_by_lemma, toward, leaves, one_part, two_parts, from_first};
 ghost use Rattle.hol_just.specs.Steps.{goal_of};
-ghost use Rattle.hol_refine_table.specs.Answers.{step_in, AnswersStep, Makes};
+ghost use Rattle.hol_refine.specs.TableAnswers.{step_in, AnswersStep, Makes};
 
+use crate::making::{by_one, by_two, closed, to_target};
 use hol_just::{Goal, Just, Rule, Step, lemma, sub};
 use hol_model::Fault;
-use hol_refine_table::{by_one, by_two, closed, to_target};
 use hol_terms::{Parts, Term};
 use std::alloc::Global;
 

@@ -3,7 +3,7 @@ ghost use Rattle.std.specs.Prelude.{IfOk};
 ghost use Rattle.hol_model.specs.Refining.Refiners.{AnswersTautology};
 ghost use Rattle.hol_just.specs.Steps.{goal_of};
 ghost use Rattle.hol_journal.specs.Journal.{IsMade, theorem_in};
-ghost use Rattle.hol_refine_table.specs.Answers.{step_in};
+ghost use Rattle.hol_refine.specs.TableAnswers.{step_in};
 ghost use Rattle.hol_theorem_library.specs.Library.{IsLibrary, IsContinued, store_in};
 ghost use Rattle.hol_refine.specs.Growth.{IsExtended};
 ghost use Rattle.hol_refine.specs.Answers.{AnswersTaut};

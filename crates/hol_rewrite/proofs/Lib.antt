@@ -1,3 +1,13 @@
+pub mod Denying
+pub mod FormLemmas
+pub mod Fresh
+pub mod JoinedRules
+pub mod Joining
+pub mod KeptSizes
+pub mod Reducing
+pub mod RoomSteps
+pub mod SmallParts
+pub mod Steps
 pub mod Equations
 pub mod FirstRules
 pub mod FixedVariables

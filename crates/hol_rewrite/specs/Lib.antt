@@ -1,3 +1,6 @@
+pub mod Forms
+pub mod Rules
+pub mod Reduction
 pub mod Sides
 pub mod RuleSides
 pub mod Instances

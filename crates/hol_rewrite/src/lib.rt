@@ -1,10 +1,19 @@
-//! Rewriting at one place: the first rule of a list that applies to a term, found by a net, and its instance.
+//! Rewriting: the equations that a theorem gives, the theorems that state them, and the first of a list of rules that applies
+//! to a term, found by a net, with its instance.
 #![tactic(auto)]
 
 mod choice;
+mod denial;
+mod forms;
+mod instances;
 mod left_sides;
+mod reduction;
+mod renaming;
 mod rewriting;
+mod rules;
+mod sides;
 
 pub use choice::{Choice, LeftSide};
 pub use left_sides::choice_of;
 pub use rewriting::rewrite_at;
+pub use rules::rules_of;

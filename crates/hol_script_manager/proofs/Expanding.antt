@@ -43,7 +43,7 @@ use Rattle.hol_theorem_store.specs.Store.{stored_of}
 use Rattle.hol_syntax.specs.declared.scope.Scope.{Scope as ScopeHere}
 use Rattle.hol_syntax.specs.Scope.{scope_of}
 use Rattle.hol_goals.specs.declared.stack.Stack as stacks
-use Rattle.hol_tactic_reading.specs.Reading.{IsTreeRead, AnswersTree}
+use Rattle.hol_tactic_grammar.specs.Reading.{IsTreeRead, AnswersTree}
 use Rattle.hol_script_inference.specs.Sessions.{Printed, theorem_of, lemmas_of, IsSession, Performs, Says, plainly}
 use Rattle.hol_script_inference.specs.Sessions as sessions
 use Rattle.hol_script_manager.specs.declared.manager.Manager.{Manager}

@@ -11,7 +11,7 @@ ghost use Rattle.hol_script_inference.specs.Sessions.{Performs, no_tools, plainl
 ghost use Rattle.hol_script_inference.specs.Answers.{session_tools};
 ghost use Rattle.hol_script_commands.specs.Views.{IsCommand};
 ghost use Rattle.hol_tactic_grammar.specs.Tactics.{IsExpression};
-ghost use Rattle.hol_tactic_reading.specs.Reading.{IsOfTree};
+ghost use Rattle.hol_tactic_grammar.specs.Reading.{IsOfTree};
 ghost use Rattle.hol_model.specs.Kernel.Theorem.{Theorem};
 ghost use Rattle.hol_model.specs.Goals.GoalStates.{top_outcome};
 ghost use Rattle.hol_model_sessions.specs.ScriptSessions.{IsProved};
@@ -32,7 +32,7 @@ use hol_sound::sound;
 use hol_syntax::term_of_steps;
 use hol_syntax_grammar::TermStep;
 use hol_tactic_exprs::{Fuel, Tac};
-use hol_tactic_reading::read_tactic;
+use hol_tactic_grammar::read_tactic;
 use std::alloc::Global;
 
 /// A session, and the proof of a goal under way.

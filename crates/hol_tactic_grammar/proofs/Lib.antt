@@ -1,3 +1,6 @@
+pub mod Trees
+pub mod Parts
+pub mod Wholes
 pub mod TokenLemmas
 pub mod ConversionLemmas
 pub mod QuoteLemmas

@@ -1,3 +1,4 @@
+pub mod Reading
 pub mod Tokens
 pub mod Words
 pub mod ConversionWords

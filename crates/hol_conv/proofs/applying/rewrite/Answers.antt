@@ -2,7 +2,7 @@ use Rattle.std.proofs.Common.{ap, sym}
 use Rattle.std.proofs.lemmas.Result.{err_from_is_err_and}
 use Rattle.hol_model.specs.Refining.Conversions.{Conversion, rules_conv}
 use Rattle.hol_prelude_derivations.specs.Derivations.{theorems}
-use Rattle.hol_conv_rules.proofs.Making.{makes_nothing}
+use Rattle.hol_conv.proofs.Making.{makes_nothing}
 use Rattle.hol_conv.specs.Leaves.{with_leaves}
 use Rattle.hol_conv.proofs.Arms.{as-conv, starved-at}
 use Rattle.hol_conv.proofs.applying.rewrite.Goals as goal

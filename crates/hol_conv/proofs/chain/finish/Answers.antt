@@ -2,8 +2,8 @@ use Rattle.std.proofs.Common.{rules, ◌≡◌, length, true, subst}
 use Rattle.hol_model.specs.Terms.NamedTerm.{NamedTerm}
 use Rattle.hol_model.specs.Logic.KnownTerm.{is_known}
 use Rattle.hol_model.specs.Refining.Conversions.{is_caught}
-use Rattle.hol_conv_rules.specs.Converted.{answered}
-use Rattle.hol_conv_rules.proofs.Making.{makes_then}
+use Rattle.hol_conv.specs.Converted.{answered}
+use Rattle.hol_conv.proofs.Making.{makes_then}
 use Rattle.hol_conv.proofs.Leading.{leads-up, reflects-equates}
 use Rattle.hol_conv.proofs.Chaining.{made-later, no-theorems, ends-empty, ends-joined, ends-unmade, joined-answer}
 use Rattle.hol_conv.proofs.chain.finish.Goals as goal

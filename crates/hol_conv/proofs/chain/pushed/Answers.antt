@@ -1,7 +1,7 @@
 use Rattle.std.proofs.Common.{rules, ◌≡◌, refl, sym, subst, true}
 use Rattle.hol_model.specs.Terms.NamedTerm.{NamedTerm}
 use Rattle.hol_model.specs.Logic.KnownTerm.{is_known}
-use Rattle.hol_conv_rules.specs.Makes.{IsRightSide}
+use Rattle.hol_conv.specs.Makes.{IsRightSide}
 use Rattle.hol_conv.proofs.Leading.{is-equation-of, equates-on}
 use Rattle.hol_conv.proofs.Chaining.{chain-pushed}
 use Rattle.hol_conv.proofs.chain.pushed.Goals as goal

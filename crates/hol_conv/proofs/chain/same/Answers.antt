@@ -1,6 +1,6 @@
 use Rattle.std.proofs.Common.{inl}
 use Rattle.hol_model.specs.declared.fault.Fault.TheVariants.{Memory}
-use Rattle.hol_conv_rules.proofs.Making.{makes_nothing}
+use Rattle.hol_conv.proofs.Making.{makes_nothing}
 use Rattle.hol_conv.proofs.Chaining.{starves, by-step}
 use Rattle.hol_conv.proofs.chain.same.Goals as goal
 

@@ -1,5 +1,5 @@
 use Rattle.hol_theorem_library.specs.Library.{store_in}
-use Rattle.hol_conv_rules.proofs.Converting.{converts_all, converts_no, converts_beta, converts_named}
+use Rattle.hol_conv.proofs.OneSteps.{converts_all, converts_no, converts_beta, converts_named}
 use Rattle.hol_journal.specs.Journal.{theorem_in}
 use Rattle.hol_conv.proofs.over_host.one_step.Goals as goal
 

@@ -1,7 +1,7 @@
 use Rattle.std.proofs.Common.{subst, List, ℕ}
 use Rattle.hol_journal.specs.Journal.{theorem_in}
 use Rattle.hol_theorem_library.specs.Library.{store_in}
-use Rattle.hol_conv_rules.specs.OneStep.{RewritesByName}
+use Rattle.hol_conv.specs.OneStep.{RewritesByName}
 use Rattle.hol_conv.proofs.over_host.rewritten.Goals as goal
 
 pub returns-in-Some-clause-rewrites : goal.returns-in-Some-clause-rewrites

@@ -3,7 +3,7 @@ use Rattle.hol_prelude_derivations.specs.Derivations.{theorems}
 use Rattle.hol_host.specs.Host.{host_of}
 use Rattle.hol_journal.specs.Journal.{theorem_in}
 use Rattle.hol_just.specs.Steps.{goal_of}
-use Rattle.hol_refine_table.specs.Answers.{step_in}
+use Rattle.hol_refine.specs.TableAnswers.{step_in}
 use Rattle.hol_theorem_library.specs.Library.{store_in}
 use Rattle.hol_model.specs.Refining.Conversions.{top_depth_conv, rules_conv}
 use Rattle.hol_model.specs.Refining.Refiners as refiners

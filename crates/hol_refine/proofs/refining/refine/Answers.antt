@@ -2,7 +2,7 @@ use Rattle.std.proofs.Common.{rules, ◌≡◌, map, string_bytes, true}
 use Rattle.hol_tactic_exprs.specs.Expressions.{conversion_of, leaf_of}
 use Rattle.hol_host.specs.Host.{host_of}
 use Rattle.hol_just.specs.Steps.{goal_of}
-use Rattle.hol_refine_table.specs.Answers.{step_in}
+use Rattle.hol_refine.specs.TableAnswers.{step_in}
 use Rattle.hol_theorem_library.specs.Library.{store_in}
 use Rattle.hol_model.specs.Refining.Refiners as refiners
 use Rattle.hol_refine.specs.Growth.{extended-same}

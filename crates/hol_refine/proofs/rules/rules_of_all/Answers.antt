@@ -1,6 +1,6 @@
 use Rattle.std.proofs.Common.{arith, inr, ◌<◌, ◌≤◌, length}
 use Rattle.hol_just_replay.proofs.Growing.{made-stay}
-use Rattle.hol_rewrite_rules.proofs.Reducing.{both_made}
+use Rattle.hol_rewrite.proofs.Reducing.{both_made}
 use Rattle.hol_refine.proofs.Extending.{continued-same, continued-twice}
 use Rattle.hol_refine.proofs.Gathering.{rules-begin, next-rules, stop-rules, end-rules, none-made, made-at}
 use Rattle.hol_equal.proofs.StepLemmas.{passed_on}

@@ -3,7 +3,7 @@ use Rattle.hol_model.specs.Refining.Conversions.{rules_conv}
 use Rattle.hol_journal.specs.Journal.{theorem_in}
 use Rattle.hol_prelude_derivations.specs.Derivations.{theorems}
 use Rattle.hol_theorem_library.specs.Library.{store_in}
-use Rattle.hol_conv_rules.proofs.Converting.{converts_rules}
+use Rattle.hol_conv.proofs.OneSteps.{converts_rules}
 use Rattle.hol_conv.proofs.Trying.{other-tried, other-untried}
 use Rattle.hol_conv.proofs.by_rules.ByRulesLeaves.try_leaf.Goals as goal
 

@@ -8,7 +8,7 @@ use Rattle.hol_model.specs.Refining.Conversions.{first_is_refused, first_answers
 use Rattle.hol_laws_refiners.proofs.Chains.{thenc_start, thenc_end}
 use Rattle.hol_laws_refiners.proofs.Repeating.{joined_defined, joined_tried}
 use Rattle.hol_tactic_exprs.specs.declared.conv.Conv.{Conv}
-use Rattle.hol_conv_rules.proofs.Making.{makes_nothing}
+use Rattle.hol_conv.proofs.Making.{makes_nothing}
 use Rattle.hol_conv.specs.Leaves.{with_leaves, stands_for, thenc_of, orelsec_of}
 use Rattle.hol_conv.specs.Chains.{proved_by}
 use Rattle.hol_conv.proofs.Sizes.{size, size_of, sizes_of, size_in}

@@ -5,7 +5,7 @@ use Rattle.hol_model.specs.Refining.Conversions.{repeatc}
 use Rattle.hol_laws_refiners.proofs.Chains.{ThencSoFar}
 use Rattle.hol_laws_refiners.proofs.Repeating.{JoinedSoFar}
 use Rattle.hol_theorem_library.specs.Library.{IsLibrary, IsContinued, store_in}
-use Rattle.hol_conv_rules.specs.Converted.{theorem_of, IsAnswerOf}
+use Rattle.hol_conv.specs.Converted.{theorem_of, IsAnswerOf}
 use Rattle.hol_conv.specs.Leaves.{stands_for, all_stand_for, thenc_of, orelsec_of}
 use Rattle.hol_conv.specs.Answers.{top_depth_again}
 use Rattle.hol_conv.specs.Chains.{IsChainFrom, proved_by}

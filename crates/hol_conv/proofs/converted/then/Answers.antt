@@ -1,0 +1,36 @@
+use Rattle.std.proofs.Common.{◌≡◌, ap, ◌∙◌, subst, true, Ok}
+use Rattle.hol_model.specs.Terms.NamedTerm.{equation, is_within_limits}
+use Rattle.hol_conv.specs.declared.converted.Converted.{Converted}
+use Rattle.hol_conv.specs.Converted.{IsAnswerOf}
+use Rattle.hol_conv.proofs.Same.{then-unchanged}
+use Rattle.hol_conv.proofs.Meeting.{side-meets, side-as, equation-as, equation-of-same}
+use Rattle.hol_conv.proofs.converted.then.Goals as goal
+
+pub returns-in-Same-next-clause-joins : goal.returns-in-Same-next-clause-joins
+returns-in-Same-next-clause-joins c =
+    let fits : is_within_limits (equation c.args.t.now c.args.t.now) ≡ true = subst (λ (first : Converted). IsAnswerOf c.args.library.now c.args.t.now first) c.in-Same.is c.requires.first in
+    then-unchanged c.args.library.now.recorder.theory c.args.t.now c.args.right.now c.args.first.now c.args.next c.in-Same.is (c.in_ok-next.was ∙ ap Ok c.in-Same-next.is) c.requires.side fits
+
+pub returns-in-Changed-next-clause-makes : goal.returns-in-Changed-next-clause-makes
+returns-in-Changed-next-clause-makes c = c.as_answer.ensures.made c.args.library.now c.from_same.new.library c.args.t.now c.from_same.ensures.makes
+
+pub returns-in-Same-next-2-clause-makes : goal.returns-in-Same-next-2-clause-makes
+returns-in-Same-next-2-clause-makes c = c.as_answer-in-Same-next-2.ensures.made c.args.library.now c.to_same.new.library c.args.t.now c.to_same.ensures.makes
+
+pub returns-in-Changed-next-2-clause-makes : goal.returns-in-Changed-next-2-clause-makes
+returns-in-Changed-next-2-clause-makes c = c.as_answer-in-Changed-next-2.ensures.made c.args.library.now c.trans_known.new.library c.args.t.now c.trans_known.ensures.makes
+
+pub from_same-requires-clause-equation : goal.from_same-requires-clause-equation
+from_same-requires-clause-equation c =
+    let theory = c.args.library.now.recorder.theory in
+    equation-of-same theory c.args.t.now c.args.right.now c.in-Changed-next.next.theorem (side-as theory c.args.t.now c.args.right.now c.args.first.now _ c.in-Same.is c.requires.side)
+    (equation-as theory c.args.right.now c.args.next _ (c.in_ok-next.was ∙ ap Ok c.in-Changed-next.is) c.requires.equation)
+
+pub to_same-requires-clause-side : goal.to_same-requires-clause-side
+to_same-requires-clause-side c = side-as c.args.library.now.recorder.theory c.args.t.now c.args.right.now c.args.first.now _ c.in-Changed.is c.requires.side
+
+pub trans_known-requires-clause-meets : goal.trans_known-requires-clause-meets
+trans_known-requires-clause-meets c =
+    let theory = c.args.library.now.recorder.theory in
+    side-meets (side-as theory c.args.t.now c.args.right.now c.args.first.now _ c.in-Changed.is c.requires.side)
+    (equation-as theory c.args.right.now c.args.next _ (c.in_ok-next.was ∙ ap Ok c.in-Changed-next-2.is) c.requires.equation)

@@ -1,0 +1,256 @@
+// Answers of conversions, which may be that nothing changes: then no theorem is made.
+ghost use Rattle.std.specs.Prelude.{◌≡◌, ℕ, List, true, Ok, IfOk, IsSome};
+ghost use Rattle.hol_model.specs.Terms.HolType.{HolType};
+ghost use Rattle.hol_model.specs.Terms.NamedTerm.{NamedTerm, variable, combination, abstraction, equation, is_within_limits};
+ghost use Rattle.hol_model.specs.Logic.Theory.{Theory};
+ghost use Rattle.hol_model.specs.Logic.KnownTerm.{is_known};
+ghost use Rattle.hol_model.specs.Kernel.Rules.{dest_equation, refl_outcome};
+ghost use Rattle.hol_model.specs.Refining.Conversions as conversions;
+ghost use Rattle.hol_laws_refiners.specs.Laws.{IsEquationOf};
+ghost use Rattle.hol_laws_refiners.proofs.Repeating.{onto};
+ghost use Rattle.hol_journal.specs.Journal.{IsMade, theorem_in};
+ghost use Rattle.hol_theorem_library.specs.Library.{IsLibrary};
+ghost use Rattle.hol_theorem_library.specs.declared.library.Library as library;
+ghost use Rattle.hol_conv.specs.Makes.{Makes, Joins, IsRightSide};
+ghost use Rattle.hol_conv.specs.Converted.{same_theorem, theorem_of, answered, changed_by, IsAnswerOf, IsHeldIn, MakesAnswer, from_refl, to_refl};
+
+use crate::joins::{
+    abs, ap_term, ap_thm, if_changed, mk_comb, refl_known, right_side, trans_known,
+};
+use hol_journal::Rec;
+use hol_model::Fault;
+use hol_terms::{Term, equation_fits};
+use hol_theorem_library::Library;
+
+/// What a conversion answers on a term.
+#[derive(Drop)]
+pub enum Converted {
+    /// `|- t = t`, which is not made.
+    Same,
+    Changed(Rec),
+}
+
+/// That the term equals itself. Refused as REFL of a known term: TooLarge.
+pub fn unchanged(t: &Term) -> Result<Converted, Fault>
+    ensures outcome { (theory : Theory) → is_known theory t.now ≡ true → answered theory t.now result ≡ refl_outcome theory t.now }
+    ensures answer { (library : library.Library) → IfOk result (IsAnswerOf library t.now) }
+{
+    if equation_fits(t) {
+        Ok(Converted::Same)
+    } else {
+        Err(Fault::TooLarge)
+    }
+}
+
+/// A theorem that was made, as an answer.
+pub fn as_answer(made: Result<Rec, Fault>) -> Result<Converted, Fault>
+    ensures same { result ≡ changed_by made }
+    ensures answered { (theory : Theory) (t : NamedTerm) → answered theory t result ≡ theorem_in made }
+    ensures made { (old new : library.Library) (t : NamedTerm) → Makes old new made → MakesAnswer old new t result }
+{
+    Ok(Converted::Changed(made?))
+}
+
+/// The theorem of an answer on a known term.
+pub fn theorem(
+    library: &mut Library,
+    t: &Term,
+    answer: Result<Converted, Fault>,
+) -> Result<Rec, Fault>
+    requires library { IsLibrary library.old }
+    requires known { is_known library.old.recorder.theory t.now ≡ true }
+    requires answer { IfOk answer (IsAnswerOf library.old t.now) }
+    ensures joins { Joins (answered library.old.recorder.theory t.now answer) (theorem_in result) }
+    ensures makes { Makes library.old library.new result }
+{
+    match answer? {
+        Converted::Same => refl_known(library, t),
+        Converted::Changed(made) => Ok(made),
+    }
+}
+
+/// The right side of an answer on a known term.
+pub fn right_of<'a>(library: &Library, t: &'a Term, answer: &'a Converted) -> &'a Term
+    requires known { is_known library.now.recorder.theory t.now ≡ true }
+    requires answer { IsAnswerOf library.now t.now answer.now }
+    requires equation { IsSome (dest_equation (theorem_of library.now.recorder.theory t.now answer.now).conclusion) }
+    ensures right { IsRightSide (theorem_of library.now.recorder.theory t.now answer.now) result.now }
+    ensures known { is_known library.now.recorder.theory result.now ≡ true }
+{
+    match answer {
+        Converted::Same => t,
+        Converted::Changed(made) => right_side(library, made),
+    }
+}
+
+/// MK_COMB of answers on the parts of a known term.
+pub fn of_parts(
+    library: &mut Library,
+    t: &Term,
+    function: &Term,
+    argument: &Term,
+    first: Converted,
+    second: Result<Converted, Fault>,
+) -> Result<Converted, Fault>
+    requires library { IsLibrary library.old }
+    requires whole { t.now ≡ combination function.now argument.now }
+    requires known { is_known library.old.recorder.theory t.now ≡ true }
+    requires function { is_known library.old.recorder.theory function.now ≡ true }
+    requires argument { is_known library.old.recorder.theory argument.now ≡ true }
+    requires first { IsAnswerOf library.old function.now first }
+    requires second { IfOk second (IsAnswerOf library.old argument.now) }
+    ensures joins { Joins
+        (conversions.of_parts library.old.recorder.theory (Ok (theorem_of library.old.recorder.theory function.now first)) (answered library.old.recorder.theory argument.now second))
+        (answered library.old.recorder.theory t.now result) }
+    ensures makes { MakesAnswer library.old library.new t.now result }
+{
+    let second = second?;
+    t.well_formed();
+    match first {
+        Converted::Same => match second {
+            Converted::Same => unchanged(t),
+            Converted::Changed(second) => as_answer(ap_term(library, function, &second)),
+        },
+        Converted::Changed(first) => match second {
+            Converted::Same => as_answer(ap_thm(library, &first, argument)),
+            Converted::Changed(second) => as_answer(mk_comb(library, &first, &second)),
+        },
+    }
+}
+
+/// AP_TERM of an answer on the argument of a known term. Refused as REFL of the function, which may have the larger type.
+pub fn of_argument(
+    library: &mut Library,
+    t: &Term,
+    function: &Term,
+    argument: &Term,
+    part: Result<Converted, Fault>,
+) -> Result<Converted, Fault>
+    requires library { IsLibrary library.old }
+    requires whole { t.now ≡ combination function.now argument.now }
+    requires known { is_known library.old.recorder.theory t.now ≡ true }
+    requires function { is_known library.old.recorder.theory function.now ≡ true }
+    requires argument { is_known library.old.recorder.theory argument.now ≡ true }
+    requires part { IfOk part (IsAnswerOf library.old argument.now) }
+    ensures joins { Joins (conversions.of_argument library.old.recorder.theory function.now (answered library.old.recorder.theory argument.now part))
+        (answered library.old.recorder.theory t.now result) }
+    ensures makes { MakesAnswer library.old library.new t.now result }
+{
+    let part = part?;
+    let same = unchanged(function)?;
+    of_parts(library, t, function, argument, same, Ok(part))
+}
+
+/// AP_THM of an answer on the function of a known term. Refused as REFL of the argument, which may have the larger type.
+pub fn of_function(
+    library: &mut Library,
+    t: &Term,
+    function: &Term,
+    part: Result<Converted, Fault>,
+    argument: &Term,
+) -> Result<Converted, Fault>
+    requires library { IsLibrary library.old }
+    requires whole { t.now ≡ combination function.now argument.now }
+    requires known { is_known library.old.recorder.theory t.now ≡ true }
+    requires function { is_known library.old.recorder.theory function.now ≡ true }
+    requires argument { is_known library.old.recorder.theory argument.now ≡ true }
+    requires part { IfOk part (IsAnswerOf library.old function.now) }
+    ensures joins { Joins (conversions.of_function library.old.recorder.theory argument.now (answered library.old.recorder.theory function.now part))
+        (answered library.old.recorder.theory t.now result) }
+    ensures makes { MakesAnswer library.old library.new t.now result }
+{
+    let part = part?;
+    let same = unchanged(argument)?;
+    of_parts(library, t, function, argument, part, Ok(same))
+}
+
+/// ABS of an answer on the body of a known term, an abstraction over this variable. Refused as `abs`.
+pub fn of_body(
+    library: &mut Library,
+    t: &Term,
+    binder: &Term,
+    part: Result<Converted, Fault>,
+) -> Result<Converted, Fault>
+    requires library { IsLibrary library.old }
+    requires known { is_known library.old.recorder.theory t.now ≡ true }
+    requires part { IfOk part (IsHeldIn library.old) }
+    ensures joins { (name : List ℕ) (ty : HolType) (body : NamedTerm) → binder.now ≡ variable name ty → t.now ≡ abstraction name ty body
+        → Joins (conversions.of_body library.old.recorder.theory name ty (answered library.old.recorder.theory body part)) (answered library.old.recorder.theory t.now result) }
+    ensures makes { MakesAnswer library.old library.new t.now result }
+{
+    match part {
+        Ok(Converted::Same) => unchanged(t),
+        Ok(Converted::Changed(part)) => as_answer(abs(library, binder, &part)),
+        Err(fault) => Err(fault),
+    }
+}
+
+// TRANS of what REFL proves and a theorem.
+fn from_same(library: &mut Library, t: &Term, next: &Rec) -> Result<Rec, Fault>
+    requires library { IsLibrary library.old }
+    requires known { is_known library.old.recorder.theory t.now ≡ true }
+    requires next { IsMade library.old.recorder next.now }
+    requires equation { IsEquationOf t.now next.now.theorem }
+    ensures makes { Makes library.old library.new result }
+    ensures joins { Joins (from_refl library.old.recorder.theory t.now next.now.theorem) (theorem_in result) }
+{
+    let same = refl_known(library, t)?;
+    trans_known(library, &same, next)
+}
+
+// TRANS of a theorem and what REFL proves.
+fn to_same(library: &mut Library, first: &Rec, right: &Term) -> Result<Rec, Fault>
+    requires library { IsLibrary library.old }
+    requires known { is_known library.old.recorder.theory right.now ≡ true }
+    requires first { IsMade library.old.recorder first.now }
+    requires side { IsRightSide first.now.theorem right.now }
+    ensures makes { Makes library.old library.new result }
+    ensures joins { Joins (to_refl library.old.recorder.theory first.now.theorem right.now) (theorem_in result) }
+{
+    let same = refl_known(library, right)?;
+    trans_known(library, first, &same)
+}
+
+/// TRANS of an answer on a known term and one on its right side, which nothing is compared for. A theorem is not joined for
+/// nothing: the next may have other bound names on its left side, and the first stands on an earlier theory, it may be.
+pub fn then(
+    library: &mut Library,
+    t: &Term,
+    first: &Converted,
+    right: &Term,
+    next: Result<Converted, Fault>,
+) -> Result<Converted, Fault>
+    requires library { IsLibrary library.old }
+    requires known { is_known library.old.recorder.theory t.now ≡ true }
+    requires right { is_known library.old.recorder.theory right.now ≡ true }
+    requires side { IsRightSide (theorem_of library.old.recorder.theory t.now first.now) right.now }
+    requires first { IsAnswerOf library.old t.now first.now }
+    requires next { IfOk next (IsAnswerOf library.old right.now) }
+    requires equation { IfOk next (λ next. IsEquationOf right.now (theorem_of library.old.recorder.theory right.now next)) }
+    ensures joins { Joins (onto library.old.recorder.theory (theorem_of library.old.recorder.theory t.now first.now) (answered library.old.recorder.theory right.now next))
+        (answered library.old.recorder.theory t.now result) }
+    ensures makes { MakesAnswer library.old library.new t.now result }
+{
+    let next = next?;
+    match first {
+        Converted::Same => match next {
+            Converted::Same => Ok(Converted::Same),
+            Converted::Changed(next) => as_answer(from_same(library, t, &next)),
+        },
+        Converted::Changed(first) => match next {
+            Converted::Same => as_answer(to_same(library, first, right)),
+            Converted::Changed(next) => as_answer(trans_known(library, first, &next)),
+        },
+    }
+}
+
+/// The answer, where it is not that the term equals itself. Refused: ConvFails.
+pub fn only_changed(t: &Term, answer: Converted) -> Result<Converted, Fault>
+    ensures same { IfOk result (λ same. same ≡ answer) }
+    ensures changed { (theory : Theory) → answered theory t.now result ≡ conversions.if_changed t.now (Ok (theorem_of theory t.now answer)) }
+{
+    match answer {
+        Converted::Same => Err(Fault::ConvFails),
+        Converted::Changed(made) => as_answer(if_changed(t, made)),
+    }
+}

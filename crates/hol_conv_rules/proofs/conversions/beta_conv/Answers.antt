@@ -1,5 +1,0 @@
-use Rattle.hol_conv_rules.proofs.Making.{continued-makes}
-use Rattle.hol_conv_rules.proofs.conversions.beta_conv.Goals as goal
-
-pub returns-clause-makes : goal.returns-clause-makes
-returns-clause-makes c = continued-makes c.args.library.now c.beta_conv.new.recorder c.beta_conv.result c.requires.library c.beta_conv.ensures.continues

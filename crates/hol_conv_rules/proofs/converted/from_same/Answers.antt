@@ -1,5 +1,0 @@
-use Rattle.hol_conv_rules.proofs.Meeting.{side-meets, refl-side}
-use Rattle.hol_conv_rules.proofs.converted.from_same.Goals as goal
-
-pub trans_known-requires-clause-meets : goal.trans_known-requires-clause-meets
-trans_known-requires-clause-meets c = side-meets (refl-side c.args.library.now.recorder.theory c.args.t.now c.in_ok-same.ensures.joins) c.requires.equation

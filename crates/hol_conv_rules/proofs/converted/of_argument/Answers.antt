@@ -1,4 +1,0 @@
-use Rattle.hol_conv_rules.proofs.converted.of_argument.Goals as goal
-
-pub of_parts-requires-clause-first : goal.of_parts-requires-clause-first
-of_parts-requires-clause-first c = c.in_ok-same.ensures.answer c.args.library.now

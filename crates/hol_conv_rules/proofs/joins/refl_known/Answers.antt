@@ -1,5 +1,0 @@
-use Rattle.hol_conv_rules.proofs.Making.{continued-makes}
-use Rattle.hol_conv_rules.proofs.joins.refl_known.Goals as goal
-
-pub returns-clause-makes : goal.returns-clause-makes
-returns-clause-makes c = continued-makes c.args.library.now c.infer_known.new.self c.infer_known.result c.requires.library c.infer_known.ensures.continues

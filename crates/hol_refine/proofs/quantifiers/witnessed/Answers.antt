@@ -1,0 +1,26 @@
+use Rattle.std.proofs.Common.{◌∷◌, []}
+use Rattle.std.proofs.lemmas.Result.{err_from_is_err_and}
+use Rattle.hol_model.specs.Terms.Measures.{nameless_within_limits}
+use Rattle.hol_model.specs.Derived.DerivedRules.{up_to_names, body_with}
+use Rattle.hol_model.specs.declared.rule.Rule.TheVariants as rules
+use Rattle.hol_model.specs.Goals.Justifications as trees
+use Rattle.hol_model.specs.Refining.Refiners.{toward, one_part, from_first}
+use Rattle.hol_just.specs.Steps.{goal_of}
+use Rattle.hol_refine.specs.TableAnswers.{step_in, abstracted}
+use Rattle.hol_refine.proofs.Fitting.{fitting, unfitting}
+use Rattle.hol_refine.proofs.quantifiers.witnessed.Goals as goal
+
+pub returns-in_err-instance : goal.returns-in_err-instance
+returns-in_err-instance c =
+    let p = err_from_is_err_and c.from_residual.result c.from_residual.ensures.1 in
+    let made = body_with (abstracted c.args.parts.name.now c.args.parts.ty.now c.args.parts.body.now) c.args.witness.now in
+    let tree = trees.by_rule (rules.Exists c.args.goal.now.concl c.args.witness.now) (one_part from_first) in
+    rw (p.1, p.2)
+    (unfitting (nameless_within_limits made) (record { goals = toward (goal_of c.args.goal.now) (up_to_names made) ∷ []; justification = tree }) c.in_err-instance.field-0.0 c.in_err-instance.ensures)
+
+pub returns : goal.returns
+returns c =
+    let made = body_with (abstracted c.args.parts.name.now c.args.parts.ty.now c.args.parts.body.now) c.args.witness.now in
+    let tree = trees.by_rule (rules.Exists c.args.goal.now.concl c.args.witness.now) (one_part from_first) in
+    fitting (nameless_within_limits made) (record { goals = toward (goal_of c.args.goal.now) (up_to_names made) ∷ []; justification = tree }) (step_in c.to_stated.result)
+    c.in_ok-instance.ensures.0 (c.to_stated.ensures (up_to_names made) tree c.in_ok-instance.ensures.1 c.in_ok-just.ensures)

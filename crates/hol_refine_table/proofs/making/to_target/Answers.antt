@@ -1,6 +1,0 @@
-use Rattle.std.proofs.Common.{refl}
-use Rattle.hol_model.specs.Derived.DerivedRules.{named}
-use Rattle.hol_refine_table.proofs.making.to_target.Goals as goal
-
-pub returns : goal.returns
-returns c t is = c.to_stated.ensures (named c.args.target.now) t refl is

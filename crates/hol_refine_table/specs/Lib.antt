@@ -1,4 +1,0 @@
-pub mod Answers
-pub mod Rows
-pub mod Scope
-pub mod Sums

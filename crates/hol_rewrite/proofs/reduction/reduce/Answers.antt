@@ -1,0 +1,19 @@
+use Rattle.std.proofs.Common.{◌∙◌, sym, ap}
+use Rattle.hol_model.specs.Rewrites.RewriteRules.{rule_form}
+use Rattle.hol_rewrite.proofs.reduction.reduce.Goals as goal
+
+pub parts-requires-clause-form : goal.parts-requires-clause-form
+parts-requires-clause-form c =
+    (c.in-Both.field-0.now, c.in-Both.field-1.now, sym (ap rule_form c.conclusion_of-conclusion.ensures.value) ∙ sym c.in-Both.ensures)
+
+pub body-requires-clause-form : goal.body-requires-clause-form
+body-requires-clause-form c =
+    (record { name = c.in-Every.field-0.now; ty = c.in-Every.field-1.now; body = c.in-Every.field-2.now }, sym (ap rule_form c.conclusion_of-conclusion.ensures.value) ∙ sym c.in-Every.ensures)
+
+pub itself-requires-clause-form : goal.itself-requires-clause-form
+itself-requires-clause-form c =
+    (c.in-Equal.field-0.now, c.in-Equal.field-1.now, sym (ap rule_form c.conclusion_of-conclusion.ensures.value) ∙ sym c.in-Equal.ensures)
+
+pub truth-requires-clause-form : goal.truth-requires-clause-form
+truth-requires-clause-form c =
+    (c.in-Stated.field-0.now, sym (ap rule_form c.conclusion_of-conclusion.ensures.value) ∙ sym c.in-Stated.ensures)

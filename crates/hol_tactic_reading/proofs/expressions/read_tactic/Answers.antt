@@ -1,6 +1,0 @@
-use Rattle.hol_syntax.specs.Scope.{scope_of}
-use Rattle.hol_tactic_reading.proofs.Trees.{tree-answered}
-use Rattle.hol_tactic_reading.proofs.expressions.read_tactic.Goals as goal
-
-pub returns : goal.returns
-returns c = tree-answered (scope_of c.args.scope.now) c.args.tac.now c.read_expression.result c.read_expression.ensures
