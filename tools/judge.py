@@ -1,5 +1,5 @@
 #!/usr/bin/env python3
-"""judge.py ROOT CRATE [NAME..]: judges the crate's wrong bodies, those that the gate tries (.edit) and the others (.md) alike, over the libraries
+"""judge.py ROOT CRATE [NAME..]: judges the crate's wrong bodies, or those of these names, those that the gate tries (.edit) and the others (.md) alike, over the libraries
 that stand in ROOT. One that changes a function is judged by a check of that function alone, any other over the work that a check of the crate
 kept. Status 1: one was not refused, or could not be judged."""
 import glob
@@ -61,10 +61,14 @@ def judge(crate, edit):
 
 
 crate = next(it for it in crates(os.path.realpath(sys.argv[1])) if it.name == sys.argv[2])
+edits = {os.path.splitext(os.path.basename(it))[0]: it for it in sorted(glob.glob(f"{crate.folder}/must-fail/*"))}
+names = [it.removesuffix(".md").removesuffix(".edit") for it in sys.argv[3:]] or list(edits)
+for name in names:
+    if name not in edits:
+        sys.exit(f"judge.py: {crate.name} has no edit {name}")
 missed = False
-for edit in sorted(glob.glob(f"{crate.folder}/must-fail/*")):
-    if not sys.argv[3:] or os.path.splitext(os.path.basename(edit))[0] in sys.argv[3:]:
-        is_refused, said = judge(crate, edit)
-        missed = missed or not is_refused
-        print(said, flush=True)
+for name in names:
+    is_refused, said = judge(crate, edits[name])
+    missed = missed or not is_refused
+    print(said, flush=True)
 sys.exit(missed)
