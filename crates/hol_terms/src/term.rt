@@ -10,7 +10,7 @@ ghost use Rattle.hol_model.specs.Kernel.Rules.{abstraction_outcome};
 ghost use Rattle.hol_model.specs.Kernel.Constructors.{variable_outcome, constant_outcome, combination_outcome};
 ghost use Rattle.hol_model.specs.declared.fault.Fault.TheVariants.{Memory, TooLarge, BadName, TypeMismatch, NotVariable};
 
-use crate::NameClasses;
+use crate::{NameClasses, mark};
 use hol_model::{Fault, TERM_HEIGHT_LIMIT, TERM_NODES_LIMIT};
 use hol_types::Ty;
 use std::alloc::Global;
@@ -29,6 +29,8 @@ pub struct Term {
 struct TermNode {
     nodes: u32,
     height: u32,
+    // A number that is made of the whole term.
+    mark: u32,
     // Whether a type variable stands in a type of the term.
     has_tyvars: bool,
     // Whether an abstraction stands in the term.
@@ -121,6 +123,12 @@ impl Term {
         self.node.height
     }
 
+    /// A number that is made of the whole term, by which tables find it fast. Nothing is said of it: two terms may have one mark, so
+    /// what is found by it is tested.
+    pub fn mark(&self) -> u32 {
+        self.node.mark
+    }
+
     /// Whether a type variable stands in a type that the term is written with.
     pub fn has_tyvars(&self) -> bool
         ensures { result ≡ has_type_variables self.now }
@@ -181,7 +189,8 @@ impl Term {
             return Err(Fault::BadName);
         }
         let shape = TermShape::Variable(String::from_str(alloc, name)?);
-        Term::leaf(alloc, ty, NameClasses::of_name(name), shape)
+        let mark = mark::of_variable(name, ty);
+        Term::leaf(alloc, ty, NameClasses::of_name(name), mark, shape)
     }
 
     /// The constant of this name and type.
@@ -192,11 +201,18 @@ impl Term {
             return Err(Fault::BadName);
         }
         let shape = TermShape::Constant(String::from_str(alloc, name)?);
-        Term::leaf(alloc, ty, NameClasses::none(), shape)
+        let mark = mark::of_constant(name, ty);
+        Term::leaf(alloc, ty, NameClasses::none(), mark, shape)
     }
 
     // The variable or the constant of this shape.
-    fn leaf(alloc: Global, ty: &Ty, names: NameClasses, shape: TermShape) -> Result<Term, Fault>
+    fn leaf(
+        alloc: Global,
+        ty: &Ty,
+        names: NameClasses,
+        mark: u32,
+        shape: TermShape,
+    ) -> Result<Term, Fault>
         requires leaf { IsLeaf shape }
         requires named { IsNamed shape }
         requires classed { names.bits ≡ classes_of_names (term_of_shape shape ty.now) }
@@ -212,6 +228,7 @@ impl Term {
             TermNode {
                 nodes: 1,
                 height: 1,
+                mark,
                 has_tyvars,
                 has_binders: false,
                 names,
@@ -237,10 +254,12 @@ impl Term {
         let has_tyvars = function.node.has_tyvars || argument.node.has_tyvars;
         let has_binders = function.node.has_binders || argument.node.has_binders;
         let names = function.node.names.union(argument.node.names);
+        let mark = mark::of_combination(function.node.mark, argument.node.mark);
         let shape = TermShape::Combination(function.copy(alloc)?, argument.copy(alloc)?);
         let node = TermNode {
             nodes,
             height,
+            mark,
             has_tyvars,
             has_binders,
             names,
@@ -266,10 +285,12 @@ impl Term {
         let _within_limit = ty.nodes();
         let has_tyvars = binder.node.has_tyvars || body.node.has_tyvars;
         let names = body.node.names;
+        let mark = mark::of_abstraction(binder.node.mark, body.node.mark);
         let shape = TermShape::Abstraction(binder.copy(alloc)?, body.copy(alloc)?);
         let node = TermNode {
             nodes,
             height,
+            mark,
             has_tyvars,
             has_binders: true,
             names,
