@@ -6,6 +6,7 @@ use Rattle.hol_model.specs.Terms.HolType.{HolType, type_variable, bool_type, fun
 use Rattle.hol_model.specs.Terms.NamedTerm.{NamedTerm, variable, constant, combination, abstraction, same_variable}
 use Rattle.hol_model.specs.Terms.Nameless.{Nameless, free, const, bound, app, lam, image}
 use Rattle.hol_model.specs.Terms.Substitution.{is_variable_named, put, replacement, instantiate}
+use Rattle.hol_model.proofs.Tests.{same_leaf}
 use Rattle.hol_model.proofs.Terms.Images.{occurs_free-image}
 use Rattle.hol_subst.specs.Entries.{entries, looked_up, replaced}
 
@@ -25,6 +26,13 @@ find-entries ((new, variable other s) ∷ rest) name ty =
 find-entries ((new, constant other s) ∷ rest) name ty = find-entries rest name ty
 find-entries ((new, combination f a) ∷ rest) name ty = find-entries rest name ty
 find-entries ((new, abstraction other s body) ∷ rest) name ty = find-entries rest name ty
+
+-- what passes the test for a variable is that variable
+pub named_variable : (name : List ℕ) (ty : HolType) (term : NamedTerm) (test : Bool) → test ≡ is_variable_named name ty term → test ≡ true → term ≡ variable name ty
+named_variable name ty (variable other s) test is passed = same_leaf variable other name s ty test is passed
+named_variable name ty (constant other s) test is passed = cc
+named_variable name ty (combination f a) test is passed = cc
+named_variable name ty (abstraction other s body) test is passed = cc
 
 -- no pairs change no type
 pub type_put-none : (ty : HolType) → type_put [] ty ≡ ty
