@@ -136,11 +136,11 @@ pub all_taken : (steps : List HeldStep) (i : ℕ) → length steps ≤ i → dro
 all_taken steps i h = nil_from_length (drop i (flat_steps_of steps)) (omega (arith, length-drop i (flat_steps_of steps), length-map steps flat_step_of))
 
 -- a binder is opened where its variable is made
-pub entered : (meant : Result HolType Fault) (name : List ℕ) (made : NamedTerm) (result : Result (Unit {0}) Fault) (now : Evaluator) (work : Workspace)
-    → (meant >>= named_variable name) ≡ Ok made → reverse now.terms.items ≡ work.1 → ((ty : HolType) → made ≡ variable name ty → Enters result now.binders name ty work.0)
+pub entered : (meant : Result HolType Fault) (name : List ℕ) (ty : HolType) (made : NamedTerm) (result : Result (Unit {0}) Fault) (now : Evaluator) (work : Workspace)
+    → meant ≡ Ok ty → named_variable name ty ≡ Ok made → reverse now.terms.items ≡ work.1 → (made ≡ variable name ty → Enters result now.binders name ty work.0)
     → Arrives result now ((meant >>= named_binding name) >>= enter work)
-entered (Err fault) name made result now work e terms enters = absurd (let bad : ◌≡◌ {A = Result NamedTerm Fault} (Err fault) (Ok made) = e in cc)
-entered (Ok ty) name made result now work e terms enters = go (is_identifier name) e
+entered meant name ty made result now work typed named terms enters =
+    subst (λ r. Arrives result now ((r >>= named_binding name) >>= enter work)) (sym typed) (go (is_identifier name) named)
   where
     here : (answer : Result (Unit {0}) Fault) → Enters answer now.binders name ty work.0 → Arrives answer now (Ok ((name, ty) ∷ work.0, work.1))
     here (Ok x) opened = record { work = ((name, ty) ∷ work.0, work.1); is = refl; held = record { binders = opened; terms = terms } }
@@ -150,17 +150,15 @@ entered (Ok ty) name made result now work e terms enters = go (is_identifier nam
     go true k =
         let whole : ◌≡◌ {A = Result NamedTerm Fault} (Ok (variable name ty)) (Ok made) = k in
         let same : made ≡ variable name ty = cc in
-        here result (enters ty same)
+        here result (enters same)
     go false k = absurd (let bad : ◌≡◌ {A = Result NamedTerm Fault} (Err BadName) (Ok made) = k in cc)
 
 -- a binder whose variable is not made
-pub unentered : (meant : Result HolType Fault) (name : List ℕ) (fault : Fault) (now : Evaluator) (work : Workspace)
-    → Answers {A = NamedTerm} (Err fault) (meant >>= named_variable name) → Arrives (Err fault) now ((meant >>= named_binding name) >>= enter work)
-unentered (Err refusal) name fault now work h = ⊎_elim (λ m. inl m) (λ e. inr (
-    let whole : ◌≡◌ {A = Result NamedTerm Fault} (Err refusal) (Err fault) = e in
-    let same : refusal ≡ fault = cc in
-    ap (λ y. Err y) same)) h
-unentered (Ok ty) name fault now work h = ⊎_elim (λ m. inl m) (λ e. inr (go (is_identifier name) e)) h
+pub unentered : (meant : Result HolType Fault) (name : List ℕ) (ty : HolType) (fault : Fault) (now : Evaluator) (work : Workspace)
+    → meant ≡ Ok ty → Answers {A = NamedTerm} (Err fault) (named_variable name ty) → Arrives (Err fault) now ((meant >>= named_binding name) >>= enter work)
+unentered meant name ty fault now work typed =
+    subst (λ r. Answers {A = NamedTerm} (Err fault) (named_variable name ty) → Arrives (Err fault) now ((r >>= named_binding name) >>= enter work)) (sym typed)
+    (⊎_elim (λ memory. inl memory) (λ e. inr (go (is_identifier name) e)))
   where
     go : (b : Bool) → (if b then Ok (variable name ty) else Err BadName) ≡ Err fault → ((if b then Ok (name, ty) else Err BadName) >>= enter work) ≡ Err fault
     go true k = absurd (let bad : ◌≡◌ {A = Result NamedTerm Fault} (Ok (variable name ty)) (Err fault) = k in cc)

@@ -5,11 +5,9 @@ ghost use Rattle.hol_model.specs.Terms.HolType.{HolType, type_eq};
 ghost use Rattle.hol_model.specs.Terms.Name as names;
 ghost use Rattle.hol_model.specs.Terms.NamedTerm.{variable, abstraction, constant, combination, equation, type_of};
 ghost use Rattle.hol_model.specs.Logic.Theory.{choice_name, choice_type};
-ghost use Rattle.hol_model.specs.Texts.TypeGrammar.{TypeTree, type_steps};
-ghost use Rattle.hol_model.specs.Texts.Reading.{Bindings, bound_type, bare_name, known_constant, fitting_type, quantifier_type, variable_meaning, constant_meaning, constant_at, named_variable, well_typed, connective, truth_operation, infix_term, negation, join, bind, bare_constant, is_closed_type};
+ghost use Rattle.hol_model.specs.Texts.Reading.{Bindings, bound_type, bare_name, known_constant, fitting_type, quantifier_type, constant_at, named_variable, well_typed, connective, truth_operation, infix_term, negation, join, bind, bare_constant, is_closed_type};
 ghost use Rattle.hol_model.specs.Kernel.Outcome.{Answers};
 ghost use Rattle.hol_syntax.specs.Scope.{scope_of};
-ghost use Rattle.hol_syntax_grammar.specs.Views.{steps_of};
 ghost use Rattle.hol_syntax_grammar.specs.Grammar.{infix_here, binder_here};
 ghost use Rattle.hol_syntax.specs.Building.{limited_constant};
 ghost use Rattle.hol_syntax.specs.OpenBinders.{IsOpened};
@@ -17,9 +15,8 @@ ghost use Rattle.hol_syntax.specs.OpenBinders.{IsOpened};
 use crate::binders::Binders;
 use crate::quantifier::is_quantifier_instance;
 use crate::scope::Scope;
-use crate::types::{build_type, identifier};
+use crate::types::identifier;
 use hol_model::{Fault, is_constant_name};
-use hol_syntax_grammar::TypeStep;
 use hol_syntax_grammar::grammar::{Binder, Infix};
 use hol_terms::{Term, mk_eq};
 use hol_types::{Ty, TypeParts, is_instance};
@@ -76,22 +73,8 @@ fn shared_truth_operation(alloc: Global, ty: &Ty) -> Result<Ty, Fault>
     truth_operation_type(alloc)
 }
 
-/// A variable with its type.
-pub fn typed_variable(
-    alloc: Global,
-    scope: &Scope,
-    name: &[u8],
-    steps: &[TypeStep],
-) -> Result<Term, Fault>
-    ensures { (tree : TypeTree) → steps_of steps.now ≡ type_steps tree
-        → Answers result (variable_meaning (scope_of scope.now) name.now tree) }
-{
-    let ty = build_type(alloc, scope, steps)?;
-    variable(alloc, name, &ty)
-}
-
-// The variable of this name and type.
-fn variable(alloc: Global, name: &[u8], ty: &Ty) -> Result<Term, Fault>
+/// The variable of this name and type.
+pub fn variable(alloc: Global, name: &[u8], ty: &Ty) -> Result<Term, Fault>
     ensures { Answers result (named_variable name.now ty.now) }
 {
     match identifier(name) {
@@ -187,20 +170,6 @@ pub fn join(
     }
 }
 
-/// A constant with its type.
-pub fn typed_constant(
-    alloc: Global,
-    scope: &Scope,
-    name: &[u8],
-    steps: &[TypeStep],
-) -> Result<Term, Fault>
-    ensures { (tree : TypeTree) → steps_of steps.now ≡ type_steps tree
-        → Answers result (constant_meaning (scope_of scope.now) name.now tree) }
-{
-    let ty = build_type(alloc, scope, steps)?;
-    constant(alloc, scope, name, &ty)
-}
-
 // The bytes as text, where they name a constant.
 fn constant_name(bytes: &[u8]) -> Option<&str>
     ensures { MatchOption result (IsFalse (names.is_constant_name bytes.now)) (λ name. (name.now ≡ bytes.now) × IsTrue (names.is_constant_name bytes.now)) }
@@ -214,8 +183,8 @@ fn constant_name(bytes: &[u8]) -> Option<&str>
     }
 }
 
-// The known constant of this name and type.
-fn constant(alloc: Global, scope: &Scope, bytes: &[u8], ty: &Ty) -> Result<Term, Fault>
+/// The known constant of this name and type.
+pub fn constant(alloc: Global, scope: &Scope, bytes: &[u8], ty: &Ty) -> Result<Term, Fault>
     ensures { Answers result (known_constant (scope_of scope.now) bytes.now ty.now) }
 {
     let Some(name) = constant_name(bytes) else {

@@ -17,9 +17,10 @@ ghost use Rattle.hol_syntax.specs.TypeStack.{IsPopped};
 ghost use Rattle.hol_syntax.specs.Evaluating.{pushed, IsHeld, Arrives};
 
 use crate::binders::Binders;
-use crate::builder::{apply, bare, bind, join, negate, typed_constant, typed_variable};
+use crate::builder::{apply, bare, bind, constant, join, negate, variable};
 use crate::leaves::Leaves;
 use crate::scope::Scope;
+use crate::types::build_type;
 use hol_model::Fault;
 use hol_syntax_grammar::grammar::{Binder, Infix};
 use hol_syntax_grammar::{TermStep, TypeStep};
@@ -118,8 +119,9 @@ impl Evaluator {
         ensures { (tree : TypeTree) (work : Workspace) → steps_of types.now ≡ type_steps tree → IsHeld self.old work
             → Arrives result self.new (model.take_step (scope_of scope.now) (EnterBinder name.now tree) work) }
     {
-        let variable = typed_variable(alloc, scope, name, types)?;
-        self.binders.enter(alloc, variable)
+        let ty = build_type(alloc, scope, types)?;
+        let binder = variable(alloc, name, &ty)?;
+        self.binders.enter(alloc, binder)
     }
 
     // Closes the innermost binder.
@@ -147,11 +149,13 @@ impl Evaluator {
                 self.put_leaf(alloc, made)
             }
             TermStep::Variable(name, types) => {
-                let made = typed_variable(alloc, scope, name, types);
+                let ty = build_type(alloc, scope, types)?;
+                let made = variable(alloc, name, &ty);
                 self.put_leaf(alloc, made)
             }
             TermStep::Constant(name, types) => {
-                let made = typed_constant(alloc, scope, name, types);
+                let ty = build_type(alloc, scope, types)?;
+                let made = constant(alloc, scope, name, &ty);
                 self.put_leaf(alloc, made)
             }
             TermStep::Apply => self.apply(alloc),
