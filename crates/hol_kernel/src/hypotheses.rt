@@ -93,13 +93,22 @@ fn are_few(few: &[Term], many: &[Term]) -> bool {
     few.len() < many.len() / 8
 }
 
+// An empty list with room for the terms of both.
+fn with_room_for(alloc: Global, first: &[Term], second: &[Term]) -> Result<Vec<Term>, Fault>
+    ensures ok { IfOk result (λ all. all.items ≡ []) }
+    ensures err { IfErr result (λ fault. fault ≡ Memory) }
+{
+    let room = first.len().saturating_add(second.len());
+    Ok(Vec::with_capacity(alloc, room)?)
+}
+
 // The hypotheses of two theorems, one beside the other.
 fn merged(alloc: Global, first: &[Term], second: &[Term]) -> Result<Vec<Term>, Fault>
     requires { AreOrdered second.now }
     ensures ok { IfOk result (λ all. all.items ≡ spec.with_hypotheses first.now second.now) }
     ensures err { IfErr result (λ fault. fault ≡ Memory) }
 {
-    let mut all = Vec::with_capacity(alloc, first.len().saturating_add(second.len()))?;
+    let mut all = with_room_for(alloc, first, second)?;
     let mut left = 0;
     let mut right = 0;
     while left < first.len() && right < second.len() {
@@ -133,7 +142,7 @@ fn with_few_new(alloc: Global, first: &[Term], second: &[Term]) -> Result<Vec<Te
     ensures ok { IfOk result (λ all. all.items ≡ spec.with_hypotheses first.now second.now) }
     ensures err { IfErr result (λ fault. fault ≡ Memory) }
 {
-    let mut all = Vec::with_capacity(alloc, first.len().saturating_add(second.len()))?;
+    let mut all = with_room_for(alloc, first, second)?;
     let mut rest = first;
     for new in second {
         rest = put_new(alloc, &mut all, rest, new)?;
@@ -148,7 +157,7 @@ fn with_few_old(alloc: Global, first: &[Term], second: &[Term]) -> Result<Vec<Te
     ensures ok { IfOk result (λ all. all.items ≡ spec.with_hypotheses first.now second.now) }
     ensures err { IfErr result (λ fault. fault ≡ Memory) }
 {
-    let mut all = Vec::with_capacity(alloc, first.len().saturating_add(second.len()))?;
+    let mut all = with_room_for(alloc, first, second)?;
     let mut rest = second;
     for old in first {
         rest = put_old(alloc, &mut all, rest, old)?;
