@@ -1,14 +1,17 @@
 // Inferences as data.
-ghost use Rattle.std.specs.Prelude.{◌≡◌, Ok, IfOk, IfErr, OnErr};
+ghost use Rattle.std.specs.Prelude.{◌≡◌, true, Ok, IfOk, IfErr, OnOk, OnErr};
+ghost use Rattle.std.specs.List.{list_all};
 ghost use Rattle.hol_model.specs.declared.fault.Fault.TheVariants.{Memory};
+ghost use Rattle.hol_model.specs.Terms.NamedTerm.{type_fits};
 ghost use Rattle.hol_model.specs.Kernel.Theorem.{IsTheorem};
 ghost use Rattle.hol_journal.specs.Journal.{IsRecorded, theorem_in};
 ghost use Rattle.hol_journal.specs.Growth.{Continues};
 ghost use Rattle.hol_journal.specs.Views.{step_of};
-ghost use Rattle.hol_journal.specs.Inferences.{step_of_inference, AreMade, IsInferred, Fits, HasSoundParts};
+ghost use Rattle.hol_journal.specs.Inferences.{step_of_inference, AreMade, IsInferred, Fits, IsSoundTerm, HasSoundParts};
+ghost use Rattle.hol_journal.specs.Limits.{pair_fits, type_pair_fits};
 
 use crate::entry::Rule;
-use crate::limits::{pairs_fit, type_pairs_fit, within_limits};
+use crate::limits::{type_fit, within_limits};
 use crate::recorder::{Rec, Recorder};
 use hol_kernel::Thm;
 use hol_model::Fault;
@@ -152,13 +155,10 @@ fn concluded_known(recorder: &Recorder, inference: Inference<'_>) -> Result<Thm,
 fn rule_of(alloc: Global, inference: Inference<'_>) -> Result<Rule, Fault>
     ensures ok { IfOk result (λ rule. step_of rule ≡ step_of_inference inference.entry) }
     ensures err { IfErr result (λ fault. fault ≡ Memory) }
-    ensures sound { HasSoundParts inference.entry }
+    ensures sound { OnOk result (HasSoundParts inference.entry) }
 {
     match inference {
-        Inference::Refl(term) => {
-            term.well_formed();
-            Ok(Rule::Refl(term.copy(alloc)?))
-        }
+        Inference::Refl(term) => Ok(Rule::Refl(copied_term(alloc, term)?)),
         Inference::Trans(first, second) => {
             theorems_hold(first, second);
             Ok(Rule::Trans(first.entry(), second.entry()))
@@ -168,18 +168,11 @@ fn rule_of(alloc: Global, inference: Inference<'_>) -> Result<Rule, Fault>
             Ok(Rule::MkComb(first.entry(), second.entry()))
         }
         Inference::Abs(binder, theorem) => {
-            binder.well_formed();
             let _theorem = theorem.theorem().concl();
-            Ok(Rule::Abs(binder.copy(alloc)?, theorem.entry()))
+            Ok(Rule::Abs(copied_term(alloc, binder)?, theorem.entry()))
         }
-        Inference::Beta(term) => {
-            term.well_formed();
-            Ok(Rule::Beta(term.copy(alloc)?))
-        }
-        Inference::Assume(term) => {
-            term.well_formed();
-            Ok(Rule::Assume(term.copy(alloc)?))
-        }
+        Inference::Beta(term) => Ok(Rule::Beta(copied_term(alloc, term)?)),
+        Inference::Assume(term) => Ok(Rule::Assume(copied_term(alloc, term)?)),
         Inference::EqMp(first, second) => {
             theorems_hold(first, second);
             Ok(Rule::EqMp(first.entry(), second.entry()))
@@ -189,12 +182,10 @@ fn rule_of(alloc: Global, inference: Inference<'_>) -> Result<Rule, Fault>
             Ok(Rule::DeductAntisym(first.entry(), second.entry()))
         }
         Inference::Inst(theta, theorem) => {
-            pairs_fit(theta);
             let _theorem = theorem.theorem().concl();
             Ok(Rule::Inst(theorem.entry(), copied_terms(alloc, theta)?))
         }
         Inference::InstType(theta, theorem) => {
-            type_pairs_fit(theta);
             let _theorem = theorem.theorem().concl();
             Ok(Rule::InstType(theorem.entry(), copied_types(alloc, theta)?))
         }
@@ -212,26 +203,48 @@ pub fn theorems_hold(first: &Rec, second: &Rec)
     let _second = second.theorem().concl();
 }
 
-// The same pairs.
+// A copy of the term, which has a type and is within the limits.
+fn copied_term(alloc: Global, term: &Term) -> Result<Term, Fault>
+    ensures ok { IfOk result (λ copy. copy ≡ term.now) }
+    ensures err { IfErr result (λ fault. fault ≡ Memory) }
+    ensures sound { IsSoundTerm term.now }
+{
+    term.well_formed();
+    term.copy(alloc)
+}
+
+// A copy of the type, which is within the limit.
+fn copied_type(alloc: Global, ty: &Ty) -> Result<Ty, Fault>
+    ensures ok { IfOk result (λ copy. copy ≡ ty.now) }
+    ensures err { IfErr result (λ fault. fault ≡ Memory) }
+    ensures fits { type_fits ty.now ≡ true }
+{
+    type_fit(ty);
+    ty.copy(alloc)
+}
+
+// The same pairs, whose terms are within the limits.
 fn copied_terms(alloc: Global, pairs: &[(Term, Term)]) -> Result<Vec<(Term, Term)>, Fault>
     ensures ok { IfOk result (λ copies. copies.items ≡ pairs.now) }
     ensures err { IfErr result (λ fault. fault ≡ Memory) }
+    ensures fit { OnOk result (list_all pair_fits pairs.now ≡ true) }
 {
     let mut copies = Vec::new(alloc);
     for pair in pairs {
-        copies.push((pair.0.copy(alloc)?, pair.1.copy(alloc)?))?;
+        copies.push((copied_term(alloc, &pair.0)?, copied_term(alloc, &pair.1)?))?;
     }
     Ok(copies)
 }
 
-// The same pairs.
+// The same pairs, whose types are within the limit.
 fn copied_types(alloc: Global, pairs: &[(Ty, Ty)]) -> Result<Vec<(Ty, Ty)>, Fault>
     ensures ok { IfOk result (λ copies. copies.items ≡ pairs.now) }
     ensures err { IfErr result (λ fault. fault ≡ Memory) }
+    ensures fit { OnOk result (list_all type_pair_fits pairs.now ≡ true) }
 {
     let mut copies = Vec::new(alloc);
     for pair in pairs {
-        copies.push((pair.0.copy(alloc)?, pair.1.copy(alloc)?))?;
+        copies.push((copied_type(alloc, &pair.0)?, copied_type(alloc, &pair.1)?))?;
     }
     Ok(copies)
 }

@@ -1,10 +1,10 @@
-// Theorems and replacements within the limits. Nothing is computed here: the clauses are laws, for callers' proofs.
+// Theorems and types within the limits. Nothing is computed here: the clauses are laws, for callers' proofs.
 ghost use Rattle.std.specs.Prelude.{◌≡◌, true};
 ghost use Rattle.std.specs.List.{list_all};
 ghost use Rattle.hol_model.specs.Terms.Nameless.{image};
 ghost use Rattle.hol_model.specs.Terms.Measures.{nameless_within_limits};
 ghost use Rattle.hol_model.specs.Terms.NamedTerm.{type_fits};
-ghost use Rattle.hol_journal.specs.Limits.{fits_log, FitsLog, pair_fits, type_pair_fits};
+ghost use Rattle.hol_journal.specs.Limits.{fits_log, FitsLog};
 
 use hol_kernel::Thm;
 use hol_terms::Term;
@@ -31,26 +31,6 @@ fn term_fits(term: &Term)
 {
     let _type = term.ty();
     term.well_formed();
-}
-
-// The terms of replacements are within the limits.
-pub(crate) fn pairs_fit(pairs: &[(Term, Term)])
-    ensures { list_all pair_fits pairs.now ≡ true }
-{
-    for pair in pairs {
-        pair.0.well_formed();
-        pair.1.well_formed();
-    }
-}
-
-// The types of replacements are within the limit.
-pub(crate) fn type_pairs_fit(pairs: &[(Ty, Ty)])
-    ensures { list_all type_pair_fits pairs.now ≡ true }
-{
-    for pair in pairs {
-        type_fit(&pair.0);
-        type_fit(&pair.1);
-    }
 }
 
 // A type is within the limit.
