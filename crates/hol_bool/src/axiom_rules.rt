@@ -7,14 +7,13 @@ ghost use Rattle.hol_prelude.specs.HasLogic.{HasLogic};
 ghost use Rattle.hol_prelude.specs.Prelude.{prelude_theorems};
 ghost use Rattle.hol_journal.specs.Growth.{Continues};
 
-use hol_equal::{conclusion_of, named};
-use hol_journal::{Rec, Recorder};
-use hol_model::Fault;
+use hol_equal::{Made, conclusion_of, named};
+use hol_journal::Recorder;
 use hol_prelude::numbers::{ETA_AX, SELECT_AX};
 use hol_prelude::{Bool, theorem_of};
 
 // The theorem of this number, which has no hypotheses.
-fn restated(recorder: &mut Recorder, logic: &Bool, number: usize) -> Result<Rec, Fault>
+fn restated(recorder: &mut Recorder, logic: &Bool, number: usize) -> Made
     requires logic { HasLogic recorder.old logic.now }
     requires number { number < length prelude_theorems }
     ensures continues { Continues recorder.old recorder.new result }
@@ -28,7 +27,7 @@ fn restated(recorder: &mut Recorder, logic: &Bool, number: usize) -> Result<Rec,
 
 /// ETA_AX: `!t. (\x. t x) = t`, on the theory that the recorder has now, in two steps. It is refused where there is no
 /// memory, and for no other reason.
-pub fn eta_ax(recorder: &mut Recorder, logic: &Bool) -> Result<Rec, Fault>
+pub fn eta_ax(recorder: &mut Recorder, logic: &Bool) -> Made
     requires { HasLogic recorder.old logic.now }
     ensures continues { Continues recorder.old recorder.new result }
     ensures ok { IfOk result (λ made. made.theorem ≡ record { theory = recorder.old.theory; hypotheses = []; conclusion = eta_axiom }) }
@@ -39,7 +38,7 @@ pub fn eta_ax(recorder: &mut Recorder, logic: &Bool) -> Result<Rec, Fault>
 
 /// SELECT_AX: `!P x. P x ==> P (@ P)`, on the theory that the recorder has now, in two steps. It is refused where there
 /// is no memory, and for no other reason.
-pub fn select_ax(recorder: &mut Recorder, logic: &Bool) -> Result<Rec, Fault>
+pub fn select_ax(recorder: &mut Recorder, logic: &Bool) -> Made
     requires { HasLogic recorder.old logic.now }
     ensures continues { Continues recorder.old recorder.new result }
     ensures ok { IfOk result (λ made. made.theorem ≡ record { theory = recorder.old.theory; hypotheses = []; conclusion = select_axiom }) }

@@ -19,7 +19,7 @@ ghost use Rattle.hol_equal.specs.Inferred.{Infers};
 
 use crate::formula_terms::{connect, equivalence, for_p_q, is_named};
 use crate::prelude_rules::{by_leading_theorem, sides_of};
-use hol_equal::steps::{self, conclusion_of};
+use hol_equal::steps::{self, Made, conclusion_of};
 use hol_journal::{Rec, Recorder};
 use hol_model::Fault;
 use hol_prelude::numbers::{AND_REFL, CONJ, CONJUNCT1, CONJUNCT2, T_AND_T, TRUTH};
@@ -28,7 +28,7 @@ use hol_terms::Term;
 
 /// CONJUNCT1: from `p /\ q`, `p`, in at most five steps. Refused where the conclusion is no conjunction.
 #[tactic(auto, using(crate::proofs::InferredRules::infers_conjunct1))]
-pub fn conjunct1(recorder: &mut Recorder, logic: &Bool, premise: &Rec) -> Result<Rec, Fault>
+pub fn conjunct1(recorder: &mut Recorder, logic: &Bool, premise: &Rec) -> Made
     requires logic { HasLogic recorder.old logic.now }
     requires premise { IsMade recorder.old premise.now }
     ensures continues { Continues recorder.old recorder.new result }
@@ -45,7 +45,7 @@ pub fn conjunct1(recorder: &mut Recorder, logic: &Bool, premise: &Rec) -> Result
 
 /// CONJUNCT2: from `p /\ q`, `q`, in at most five steps. Refused where the conclusion is no conjunction.
 #[tactic(auto, using(crate::proofs::InferredRules::infers_conjunct2))]
-pub fn conjunct2(recorder: &mut Recorder, logic: &Bool, premise: &Rec) -> Result<Rec, Fault>
+pub fn conjunct2(recorder: &mut Recorder, logic: &Bool, premise: &Rec) -> Made
     requires logic { HasLogic recorder.old logic.now }
     requires premise { IsMade recorder.old premise.now }
     ensures continues { Continues recorder.old recorder.new result }
@@ -76,7 +76,7 @@ fn is_truth_among(terms: &[Term]) -> bool
 }
 
 // From `p` without the hypothesis `T`, `T <=> p`.
-fn truth_equation(recorder: &mut Recorder, logic: &Bool, premise: &Rec) -> Result<Rec, Fault>
+fn truth_equation(recorder: &mut Recorder, logic: &Bool, premise: &Rec) -> Made
     requires logic { HasLogic recorder.old logic.now }
     requires premise { IsMade recorder.old premise.now }
     requires absent { list_any is_true premise.now.theorem.hypotheses ≡ false }
@@ -91,7 +91,7 @@ fn truth_equation(recorder: &mut Recorder, logic: &Bool, premise: &Rec) -> Resul
 
 // From `T <=> p` and `T <=> q`, `T /\ T <=> p /\ q`, and from it `p /\ q`.
 #[tactic(auto, using(crate::proofs::PreludeSteps::staying))]
-fn by_truths(recorder: &mut Recorder, logic: &Bool, first: &Rec, second: &Rec) -> Result<Rec, Fault>
+fn by_truths(recorder: &mut Recorder, logic: &Bool, first: &Rec, second: &Rec) -> Made
     requires logic { HasLogic recorder.old logic.now }
     requires first { IsMade recorder.old first.now }
     requires second { IsMade recorder.old second.now }
@@ -111,7 +111,7 @@ fn by_truths(recorder: &mut Recorder, logic: &Bool, first: &Rec, second: &Rec) -
 
 // CONJ, by the theorem of the prelude at the two formulas.
 #[tactic(auto, using(hol_equal::proofs::StepLemmas::still_made, hol_equal::proofs::StepLemmas::now_made))]
-fn conjoined(recorder: &mut Recorder, logic: &Bool, first: &Rec, second: &Rec) -> Result<Rec, Fault>
+fn conjoined(recorder: &mut Recorder, logic: &Bool, first: &Rec, second: &Rec) -> Made
     requires logic { HasLogic recorder.old logic.now }
     requires first { IsMade recorder.old first.now }
     requires second { IsMade recorder.old second.now }
@@ -130,12 +130,7 @@ fn conjoined(recorder: &mut Recorder, logic: &Bool, first: &Rec, second: &Rec) -
 
 // CONJ, with the room that it needs. No formula is named where `T` is no hypothesis.
 #[tactic(auto, using(crate::proofs::PreludeSteps::staying))]
-pub(crate) fn conj_in_room(
-    recorder: &mut Recorder,
-    logic: &Bool,
-    first: &Rec,
-    second: &Rec,
-) -> Result<Rec, Fault>
+pub(crate) fn conj_in_room(recorder: &mut Recorder, logic: &Bool, first: &Rec, second: &Rec) -> Made
     requires logic { HasLogic recorder.old logic.now }
     requires first { IsMade recorder.old first.now }
     requires second { IsMade recorder.old second.now }
@@ -152,7 +147,7 @@ pub(crate) fn conj_in_room(
 
 /// CONJ: from `p` and `q`, `p /\ q`, in at most six steps, and where `T` is no hypothesis in five that name no formula.
 #[tactic(auto, using(crate::proofs::InferredRules::infers_conj))]
-pub fn conj(recorder: &mut Recorder, logic: &Bool, first: &Rec, second: &Rec) -> Result<Rec, Fault>
+pub fn conj(recorder: &mut Recorder, logic: &Bool, first: &Rec, second: &Rec) -> Made
     requires logic { HasLogic recorder.old logic.now }
     requires first { IsMade recorder.old first.now }
     requires second { IsMade recorder.old second.now }

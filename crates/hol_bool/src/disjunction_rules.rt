@@ -23,7 +23,7 @@ use crate::formula_terms::{Sides, connect, for_p_q, for_p_q_r};
 use crate::implication_rules::{disch_in_room, mp_known};
 use crate::prelude_rules::{by_leading_theorem, pass_formula, sides_of};
 use hol_alpha::aconv;
-use hol_equal::conclusion_of;
+use hol_equal::{Made, conclusion_of};
 use hol_journal::{Rec, Recorder};
 use hol_model::Fault;
 use hol_prelude::Bool;
@@ -39,7 +39,7 @@ fn with_disjunct(
     p: &Term,
     q: &Term,
     premise: &Rec,
-) -> Result<Rec, Fault>
+) -> Made
     requires logic { HasLogic recorder.old logic.now }
     requires number { number < length prelude_theorems }
     requires left { IsFormula recorder.old.theory p.now }
@@ -60,7 +60,7 @@ fn with_disjunct(
 /// DISJ1: from `p`, `p \/ q`, in at most five steps. Refused where `q` is not of type `bool`, and then where the theory does not
 /// know a type or a constant of it.
 #[tactic(auto, using(crate::proofs::InferredRules::infers_disj1))]
-pub fn disj1(recorder: &mut Recorder, logic: &Bool, q: &Term, premise: &Rec) -> Result<Rec, Fault>
+pub fn disj1(recorder: &mut Recorder, logic: &Bool, q: &Term, premise: &Rec) -> Made
     requires logic { HasLogic recorder.old logic.now }
     requires premise { IsMade recorder.old premise.now }
     ensures continues { Continues recorder.old recorder.new result }
@@ -76,7 +76,7 @@ pub fn disj1(recorder: &mut Recorder, logic: &Bool, q: &Term, premise: &Rec) -> 
 /// DISJ2: from `q`, `p \/ q`, in at most five steps. Refused where `p` is not of type `bool`, and then where the theory does not
 /// know a type or a constant of it.
 #[tactic(auto, using(crate::proofs::InferredRules::infers_disj2))]
-pub fn disj2(recorder: &mut Recorder, logic: &Bool, p: &Term, premise: &Rec) -> Result<Rec, Fault>
+pub fn disj2(recorder: &mut Recorder, logic: &Bool, p: &Term, premise: &Rec) -> Made
     requires logic { HasLogic recorder.old logic.now }
     requires premise { IsMade recorder.old premise.now }
     ensures continues { Continues recorder.old recorder.new result }
@@ -106,7 +106,7 @@ fn disj_cases_in_room(
     r: &Term,
     rest: &Term,
     theorem: &Rec,
-) -> Result<Rec, Fault>
+) -> Made
     requires logic { HasLogic recorder.old logic.now }
     requires left { IsFormula recorder.old.theory sides.left.now }
     requires right { IsFormula recorder.old.theory sides.right.now }
@@ -138,7 +138,7 @@ fn with_case(
     consequent: &Term,
     whole: &Rec,
     case: &Rec,
-) -> Result<Rec, Fault>
+) -> Made
     requires logic { HasLogic recorder.old logic.now }
     requires p { IsFormula recorder.old.theory p.now }
     requires consequent { IsFormula recorder.old.theory consequent.now }
@@ -166,7 +166,7 @@ fn by_cases(
     theorem: &Rec,
     first: &Rec,
     second: &Rec,
-) -> Result<Rec, Fault>
+) -> Made
     requires logic { HasLogic recorder.old logic.now }
     requires left { IsFormula recorder.old.theory sides.left.now }
     requires right { IsFormula recorder.old.theory sides.right.now }
@@ -200,7 +200,7 @@ pub fn disj_cases(
     theorem: &Rec,
     first: &Rec,
     second: &Rec,
-) -> Result<Rec, Fault>
+) -> Made
     requires logic { HasLogic recorder.old logic.now }
     requires theorem { IsMade recorder.old theorem.now }
     requires first { IsMade recorder.old first.now }

@@ -20,7 +20,7 @@ use crate::conjunction_rules::conj_in_room;
 use crate::formula_terms::{connect, equivalence, for_p_q};
 use crate::prelude_rules::{by_leading_theorem, instance_of_theorem, pass_formula, sides_of};
 use hol_alpha::aconv;
-use hol_equal::steps::{self, conclusion_of};
+use hol_equal::steps::{self, Made, conclusion_of};
 use hol_journal::{Rec, Recorder};
 use hol_model::Fault;
 use hol_prelude::Bool;
@@ -35,7 +35,7 @@ pub fn mp_known(
     consequent: &Term,
     first: &Rec,
     second: &Rec,
-) -> Result<Rec, Fault>
+) -> Made
     requires logic { HasLogic recorder.old logic.now }
     requires consequent { IsFormula recorder.old.theory consequent.now }
     requires first { IsMade recorder.old first.now }
@@ -59,7 +59,7 @@ pub fn mp_known(
 /// MP: from `p ==> q` and `p`, `q`, in at most six steps. Refused where the first conclusion is no implication, and then where
 /// the second is not its left side up to the names of bound variables.
 #[tactic(auto, using(crate::proofs::InferredRules::infers_mp))]
-pub fn mp(recorder: &mut Recorder, logic: &Bool, first: &Rec, second: &Rec) -> Result<Rec, Fault>
+pub fn mp(recorder: &mut Recorder, logic: &Bool, first: &Rec, second: &Rec) -> Made
     requires logic { HasLogic recorder.old logic.now }
     requires first { IsMade recorder.old first.now }
     requires second { IsMade recorder.old second.now }
@@ -77,7 +77,7 @@ pub fn mp(recorder: &mut Recorder, logic: &Bool, first: &Rec, second: &Rec) -> R
 }
 
 // From `p /\ q`, as a hypothesis, `p`.
-fn first_of_both(recorder: &mut Recorder, logic: &Bool, p: &Term, q: &Term) -> Result<Rec, Fault>
+fn first_of_both(recorder: &mut Recorder, logic: &Bool, p: &Term, q: &Term) -> Made
     requires logic { HasLogic recorder.old logic.now }
     requires first { IsFormula recorder.old.theory p.now }
     requires second { IsFormula recorder.old.theory q.now }
@@ -92,7 +92,7 @@ fn first_of_both(recorder: &mut Recorder, logic: &Bool, p: &Term, q: &Term) -> R
 
 // From `q`, `p /\ q <=> p` without the hypothesis `p`.
 #[tactic(auto, using(crate::proofs::PreludeSteps::staying))]
-fn absorption(recorder: &mut Recorder, logic: &Bool, p: &Term, premise: &Rec) -> Result<Rec, Fault>
+fn absorption(recorder: &mut Recorder, logic: &Bool, p: &Term, premise: &Rec) -> Made
     requires logic { HasLogic recorder.old logic.now }
     requires formula { IsFormula recorder.old.theory p.now }
     requires premise { IsMade recorder.old premise.now }
@@ -111,12 +111,7 @@ fn absorption(recorder: &mut Recorder, logic: &Bool, p: &Term, premise: &Rec) ->
 /// DISCH, with the room that it needs: from `q`, `p ==> q` without the hypothesis `p`, for a formula `p` that the theory
 /// knows.
 #[tactic(auto, using(crate::proofs::PreludeSteps::staying))]
-pub fn disch_in_room(
-    recorder: &mut Recorder,
-    logic: &Bool,
-    p: &Term,
-    premise: &Rec,
-) -> Result<Rec, Fault>
+pub fn disch_in_room(recorder: &mut Recorder, logic: &Bool, p: &Term, premise: &Rec) -> Made
     requires logic { HasLogic recorder.old logic.now }
     requires formula { IsFormula recorder.old.theory p.now }
     requires premise { IsMade recorder.old premise.now }
@@ -137,7 +132,7 @@ pub fn disch_in_room(
 /// DISCH: from `q`, `p ==> q` without the hypothesis `p`, in at most 16 steps. Refused where `p` is not of type `bool`, and then
 /// where the theory does not know a type or a constant of it.
 #[tactic(auto, using(crate::proofs::InferredRules::infers_disch))]
-pub fn disch(recorder: &mut Recorder, logic: &Bool, p: &Term, premise: &Rec) -> Result<Rec, Fault>
+pub fn disch(recorder: &mut Recorder, logic: &Bool, p: &Term, premise: &Rec) -> Made
     requires logic { HasLogic recorder.old logic.now }
     requires premise { IsMade recorder.old premise.now }
     ensures continues { Continues recorder.old recorder.new result }
@@ -150,13 +145,7 @@ pub fn disch(recorder: &mut Recorder, logic: &Bool, p: &Term, premise: &Rec) -> 
 }
 
 // From `p ==> q`, `q` with the hypothesis `p`.
-fn undisch_in_room(
-    recorder: &mut Recorder,
-    logic: &Bool,
-    p: &Term,
-    q: &Term,
-    premise: &Rec,
-) -> Result<Rec, Fault>
+fn undisch_in_room(recorder: &mut Recorder, logic: &Bool, p: &Term, q: &Term, premise: &Rec) -> Made
     requires logic { HasLogic recorder.old logic.now }
     requires premise { IsMade recorder.old premise.now }
     requires sides { AreSides recorder.old.theory implies_name premise.now.theorem.conclusion p.now q.now }
@@ -176,7 +165,7 @@ fn undisch_in_room(
 
 /// UNDISCH: from `p ==> q`, `q` with the hypothesis `p`, in at most four steps. Refused where the conclusion is no implication.
 #[tactic(auto, using(crate::proofs::InferredRules::infers_undisch))]
-pub fn undisch(recorder: &mut Recorder, logic: &Bool, premise: &Rec) -> Result<Rec, Fault>
+pub fn undisch(recorder: &mut Recorder, logic: &Bool, premise: &Rec) -> Made
     requires logic { HasLogic recorder.old logic.now }
     requires premise { IsMade recorder.old premise.now }
     ensures continues { Continues recorder.old recorder.new result }

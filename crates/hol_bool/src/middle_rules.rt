@@ -8,15 +8,15 @@ ghost use Rattle.hol_journal.specs.Growth.{Continues};
 
 use crate::formula_terms::{connect, for_p, negate};
 use crate::prelude_rules::{instance_of_theorem, pass_formula};
-use hol_journal::{Rec, Recorder};
-use hol_model::Fault;
+use hol_equal::Made;
+use hol_journal::Recorder;
 use hol_prelude::Bool;
 use hol_prelude::numbers::EXCLUDED_MIDDLE;
 use hol_terms::Term;
 
 /// EXCLUDED_MIDDLE: `p \/ ~p`, in at most three steps. Refused where `p` is not of type `bool`, and then where the theory does not
 /// know a type or a constant of it.
-pub fn excluded_middle(recorder: &mut Recorder, logic: &Bool, p: &Term) -> Result<Rec, Fault>
+pub fn excluded_middle(recorder: &mut Recorder, logic: &Bool, p: &Term) -> Made
     requires logic { HasLogic recorder.old logic.now }
     ensures continues { Continues recorder.old recorder.new result }
     ensures outcome { AnswersStated (theorem_in result) (image p.now ∷ []) (excluded_middle_outcome recorder.old.theory p.now) }

@@ -11,7 +11,7 @@ ghost use Rattle.hol_equal.specs.Inferred.{Infers};
 
 use crate::formula_terms::{connect, falsity, for_p, is_named, negate};
 use crate::prelude_rules::{by_leading_theorem, negated_of, pass_formula, sides_of};
-use hol_equal::conclusion_of;
+use hol_equal::{Made, conclusion_of};
 use hol_journal::{Rec, Recorder};
 use hol_model::Fault;
 use hol_prelude::Bool;
@@ -20,7 +20,7 @@ use hol_terms::Term;
 
 /// NOT_INTRO: from `p ==> F`, `~p`, in at most five steps. Refused where the conclusion is no implication of `F`.
 #[tactic(auto, using(crate::proofs::InferredRules::infers_not_intro))]
-pub fn not_intro(recorder: &mut Recorder, logic: &Bool, premise: &Rec) -> Result<Rec, Fault>
+pub fn not_intro(recorder: &mut Recorder, logic: &Bool, premise: &Rec) -> Made
     requires logic { HasLogic recorder.old logic.now }
     requires premise { IsMade recorder.old premise.now }
     ensures continues { Continues recorder.old recorder.new result }
@@ -42,7 +42,7 @@ pub fn not_intro(recorder: &mut Recorder, logic: &Bool, premise: &Rec) -> Result
 
 /// NOT_ELIM: from `~p`, `p ==> F`, in at most five steps. Refused where the conclusion is no negation.
 #[tactic(auto, using(crate::proofs::InferredRules::infers_not_elim))]
-pub fn not_elim(recorder: &mut Recorder, logic: &Bool, premise: &Rec) -> Result<Rec, Fault>
+pub fn not_elim(recorder: &mut Recorder, logic: &Bool, premise: &Rec) -> Made
     requires logic { HasLogic recorder.old logic.now }
     requires premise { IsMade recorder.old premise.now }
     ensures continues { Continues recorder.old recorder.new result }
@@ -63,7 +63,7 @@ pub fn not_elim(recorder: &mut Recorder, logic: &Bool, premise: &Rec) -> Result<
 /// then where the theory does not know a type or a constant of it. Walks `p`; where a proof shows that it is a formula that
 /// the theory knows, `contr_known`.
 #[tactic(auto, using(crate::proofs::InferredRules::infers_contr))]
-pub fn contr(recorder: &mut Recorder, logic: &Bool, p: &Term, premise: &Rec) -> Result<Rec, Fault>
+pub fn contr(recorder: &mut Recorder, logic: &Bool, p: &Term, premise: &Rec) -> Made
     requires logic { HasLogic recorder.old logic.now }
     requires premise { IsMade recorder.old premise.now }
     ensures continues { Continues recorder.old recorder.new result }
@@ -82,12 +82,7 @@ pub fn contr(recorder: &mut Recorder, logic: &Bool, p: &Term, premise: &Rec) -> 
 /// CONTR of a formula that the theory knows, which is not walked for it, in at most five steps. Refused where the conclusion is not
 /// `F`.
 #[tactic(auto, using(crate::proofs::InferredRules::infers_contr))]
-pub fn contr_known(
-    recorder: &mut Recorder,
-    logic: &Bool,
-    p: &Term,
-    premise: &Rec,
-) -> Result<Rec, Fault>
+pub fn contr_known(recorder: &mut Recorder, logic: &Bool, p: &Term, premise: &Rec) -> Made
     requires logic { HasLogic recorder.old logic.now }
     requires formula { IsFormula recorder.old.theory p.now }
     requires premise { IsMade recorder.old premise.now }

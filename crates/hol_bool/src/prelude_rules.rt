@@ -17,7 +17,7 @@ ghost use Rattle.hol_equal.specs.Sequents.{DerivesIf};
 ghost use Rattle.hol_bool.specs.PreludeInstances.{LeadsTo, Concludes, Says, TheoremDerives};
 
 use crate::formula_terms::{Sides, connected_sides, negated_part};
-use hol_equal::{by_fitting_lemma, conclusion_of, instance_known, named_same};
+use hol_equal::{Made, by_fitting_lemma, conclusion_of, instance_known, named_same};
 use hol_journal::{Rec, Recorder};
 use hol_model::Fault;
 use hol_prelude::{Bool, theorem_of};
@@ -33,7 +33,7 @@ pub(crate) fn by_leading_theorem(
     terms: &[(Term, Term)],
     stated: &Term,
     premise: &Rec,
-) -> Result<Rec, Fault>
+) -> Made
     requires logic { HasLogic recorder.old logic.now }
     requires number { number < length prelude_theorems }
     requires premise { IsMade recorder.old premise.now }
@@ -56,7 +56,7 @@ pub(crate) fn instance_of_theorem(
     number: usize,
     terms: &[(Term, Term)],
     stated: &Term,
-) -> Result<Rec, Fault>
+) -> Made
     requires logic { HasLogic recorder.old logic.now }
     requires number { number < length prelude_theorems }
     requires stated { IsFormula recorder.old.theory stated.now }

@@ -9,8 +9,8 @@ ghost use Rattle.hol_equal.specs.Inferred.{Infers};
 
 use crate::formula_terms::{equivalence, for_p, is_named, truth};
 use crate::prelude_rules::by_leading_theorem;
-use hol_equal::conclusion_of;
 use hol_equal::equality::equation_parts;
+use hol_equal::{Made, conclusion_of};
 use hol_journal::{Rec, Recorder};
 use hol_model::Fault;
 use hol_prelude::Bool;
@@ -18,7 +18,7 @@ use hol_prelude::numbers::{EQT_ELIM, EQT_INTRO};
 
 /// EQT_INTRO: from `p`, `p <=> T`, in at most five steps.
 #[tactic(auto, using(crate::proofs::InferredRules::infers_eqt_intro))]
-pub fn eqt_intro(recorder: &mut Recorder, logic: &Bool, premise: &Rec) -> Result<Rec, Fault>
+pub fn eqt_intro(recorder: &mut Recorder, logic: &Bool, premise: &Rec) -> Made
     requires logic { HasLogic recorder.old logic.now }
     requires premise { IsMade recorder.old premise.now }
     ensures continues { Continues recorder.old recorder.new result }
@@ -35,7 +35,7 @@ pub fn eqt_intro(recorder: &mut Recorder, logic: &Bool, premise: &Rec) -> Result
 
 /// EQT_ELIM: from `p <=> T`, `p`, in at most five steps. Refused where the conclusion is no equation with `T` on its right.
 #[tactic(auto, using(crate::proofs::InferredRules::infers_eqt_elim))]
-pub fn eqt_elim(recorder: &mut Recorder, logic: &Bool, premise: &Rec) -> Result<Rec, Fault>
+pub fn eqt_elim(recorder: &mut Recorder, logic: &Bool, premise: &Rec) -> Made
     requires logic { HasLogic recorder.old logic.now }
     requires premise { IsMade recorder.old premise.now }
     ensures continues { Continues recorder.old recorder.new result }

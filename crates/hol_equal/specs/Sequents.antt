@@ -3,13 +3,13 @@ use Rattle.std.specs.Prelude.{◌≡◌, ◌⊎◌, List, ◌∷◌, map, Bool, 
 use Rattle.std.specs.List.{list_all}
 use Rattle.hol_model.specs.declared.fault.Fault.{Fault}
 use Rattle.hol_model.specs.declared.fault.Fault.TheVariants.{Memory, TooLarge}
-use Rattle.hol_model.specs.Terms.HolType.{HolType}
+use Rattle.hol_model.specs.Terms.HolType.{HolType, bool_type}
 use Rattle.hol_model.specs.Terms.NamedTerm.{NamedTerm}
 use Rattle.hol_model.specs.Terms.Nameless.{Nameless, image}
 use Rattle.hol_model.specs.Terms.Substitution.{put_all}
 use Rattle.hol_model.specs.Kernel.Instantiation.{instantiate_all}
 use Rattle.hol_model.specs.Terms.Measures.{nameless_within_limits}
-use Rattle.hol_model.specs.Logic.Derivable.{IsSameSet}
+use Rattle.hol_model.specs.Logic.Derivable.{IsSameSet, nameless_equation}
 use Rattle.hol_model.specs.Kernel.Theorem.{Theorem}
 use Rattle.hol_journal.specs.Journal.{Recorded}
 
@@ -26,6 +26,10 @@ IsPast fault within = (fault ≡ Memory) ⊎ ((fault ≡ TooLarge) × (within �
 abbrev pub DerivesIf : Bool → Result Recorded Fault → List Nameless → Nameless → Type 0
 DerivesIf fits (Ok made) hypotheses conclusion = Shows made.theorem hypotheses conclusion
 DerivesIf fits (Err fault) hypotheses conclusion = IsPast fault fits
+
+-- the equation of a formula with itself is within the limits
+abbrev pub reflexive_fits : Nameless → Bool
+reflexive_fits p = nameless_within_limits (nameless_equation bool_type p p)
 
 -- the conclusion has to be within the limits
 abbrev pub Derives : Result Recorded Fault → List Nameless → Nameless → Type 0

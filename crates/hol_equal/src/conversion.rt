@@ -7,9 +7,8 @@ ghost use Rattle.hol_journal.specs.Growth.{Continues};
 ghost use Rattle.hol_equal.specs.Sequents.{DerivesIf};
 ghost use Rattle.hol_equal.specs.Conversions.{conversion, conversion_fits, IsKnownRedex};
 
-use crate::steps;
-use hol_journal::{Rec, Recorder};
-use hol_model::Fault;
+use crate::steps::{self, Made};
+use hol_journal::Recorder;
 use hol_terms::Term;
 
 /// For an abstraction `\x. b`, its variable and a term `a`, all of them known to the theory and not walked for it, the theorem
@@ -19,7 +18,7 @@ pub fn converted_known(
     function: &Term,
     binder: &Term,
     argument: &Term,
-) -> Result<Rec, Fault>
+) -> Made
     requires { IsKnownRedex recorder.old.theory function.now binder.now argument.now }
     ensures continues { Continues recorder.old recorder.new result }
     ensures derives { (name : List ℕ) (ty codomain : HolType) (body : NamedTerm) → function.now ≡ abstraction name ty body

@@ -15,12 +15,12 @@ ghost use Rattle.hol_kernel.specs.Fits.{DeductFits};
 ghost use Rattle.hol_journal.specs.Journal.{IsMade, theorem_in};
 ghost use Rattle.hol_equal.specs.Formulas.{IsFormula};
 ghost use Rattle.hol_journal.specs.Growth.{Continues, IsHeld};
-ghost use Rattle.hol_equal.specs.Sequents.{Shows, DerivesIf};
+ghost use Rattle.hol_equal.specs.Sequents.{Shows, DerivesIf, reflexive_fits};
 ghost use Rattle.hol_equal.specs.Inferred.{Infers};
 ghost use Rattle.hol_equal.specs.Conversions.{beta_converted_outcome};
 
 use crate::conversion::converted_known;
-use crate::steps::{self, conclusion_of};
+use crate::steps::{self, Made, conclusion_of};
 use hol_alpha::aconv;
 use hol_journal::{Rec, Recorder, theorems_hold};
 pub use hol_kernel::equation_parts;
@@ -58,7 +58,7 @@ fn redex_parts(term: &Term) -> Option<Redex<'_>>
 
 /// SYM: from `a = b`, `b = a`, in five steps of the kernel's rules. Refused where the conclusion is no equation.
 #[tactic(auto, using(crate::proofs::InferredEquality::infers_sym))]
-pub fn sym(recorder: &mut Recorder, premise: &Rec) -> Result<Rec, Fault>
+pub fn sym(recorder: &mut Recorder, premise: &Rec) -> Made
     requires { IsMade recorder.old premise.now }
     ensures continues { Continues recorder.old recorder.new result }
     ensures outcome { AnswersStated (theorem_in result) (terms_of_theorem premise.now.theorem) (sym_outcome premise.now.theorem) }
@@ -76,12 +76,11 @@ pub fn sym(recorder: &mut Recorder, premise: &Rec) -> Result<Rec, Fault>
 
 /// The theorem with this conclusion, which differs from its own in the names of bound variables alone, in two
 /// steps. Walks the term; where a proof shows that the theory knows it, and that the two fit, `named_same`.
-pub fn named(recorder: &mut Recorder, term: &Term, premise: &Rec) -> Result<Rec, Fault>
+pub fn named(recorder: &mut Recorder, term: &Term, premise: &Rec) -> Made
     requires { IsMade recorder.old premise.now }
     ensures continues { Continues recorder.old recorder.new result }
     ensures names { IfOk result (λ made. made.theorem.conclusion ≡ term.now) }
-    ensures derives { (h : List Nameless) → Shows premise.now.theorem h (image term.now)
-        → DerivesIf (nameless_within_limits (nameless_equation bool_type (image term.now) (image term.now))) result h (image term.now) }
+    ensures derives { (h : List Nameless) → Shows premise.now.theorem h (image term.now) → DerivesIf (reflexive_fits (image term.now)) result h (image term.now) }
 {
     let _premise = recorder.thm(premise).concl();
     let _type = term.ty();
@@ -94,14 +93,13 @@ pub fn named(recorder: &mut Recorder, term: &Term, premise: &Rec) -> Result<Rec,
 /// is bound, else in two steps. Of a theorem on the recorder's theory, and a formula that the theory knows: it is not walked
 /// for it, and the two are not compared.
 #[tactic(auto, using(crate::proofs::Exact::exactness))]
-pub fn named_same(recorder: &mut Recorder, term: &Term, premise: &Rec) -> Result<Rec, Fault>
+pub fn named_same(recorder: &mut Recorder, term: &Term, premise: &Rec) -> Made
     requires premise { IsHeld recorder.old premise.now }
     requires formula { IsFormula recorder.old.theory term.now }
     requires same { image premise.now.theorem.conclusion ≡ image term.now }
     ensures continues { Continues recorder.old recorder.new result }
     ensures names { IfOk result (λ made. made.theorem.conclusion ≡ term.now) }
-    ensures derives { (h : List Nameless) → Shows premise.now.theorem h (image term.now)
-        → DerivesIf (nameless_within_limits (nameless_equation bool_type (image term.now) (image term.now))) result h (image term.now) }
+    ensures derives { (h : List Nameless) → Shows premise.now.theorem h (image term.now) → DerivesIf (reflexive_fits (image term.now)) result h (image term.now) }
 {
     if !term.has_binders() {
         return kept(recorder, premise);
@@ -110,7 +108,7 @@ pub fn named_same(recorder: &mut Recorder, term: &Term, premise: &Rec) -> Result
 }
 
 // The same theorem.
-fn kept(recorder: &mut Recorder, premise: &Rec) -> Result<Rec, Fault>
+fn kept(recorder: &mut Recorder, premise: &Rec) -> Made
     requires { IsHeld recorder.old premise.now }
     ensures continues { Continues recorder.old recorder.new result }
     ensures ok { IfOk result (λ made. made ≡ premise.now) }
@@ -121,24 +119,20 @@ fn kept(recorder: &mut Recorder, premise: &Rec) -> Result<Rec, Fault>
 
 /// The theorem with this conclusion, of the same image as its own, by REFL and EQ_MP, also where nothing is bound. The theory
 /// knows the formula, which is not walked for it, and the two are not compared.
-pub fn renamed(recorder: &mut Recorder, term: &Term, premise: &Rec) -> Result<Rec, Fault>
+pub fn renamed(recorder: &mut Recorder, term: &Term, premise: &Rec) -> Made
     requires premise { IsMade recorder.old premise.now }
     requires formula { IsFormula recorder.old.theory term.now }
     requires same { image premise.now.theorem.conclusion ≡ image term.now }
     ensures continues { Continues recorder.old recorder.new result }
     ensures names { IfOk result (λ made. made.theorem.conclusion ≡ term.now) }
-    ensures derives { (h : List Nameless) → Shows premise.now.theorem h (image term.now)
-        → DerivesIf (nameless_within_limits (nameless_equation bool_type (image term.now) (image term.now))) result h (image term.now) }
+    ensures derives { (h : List Nameless) → Shows premise.now.theorem h (image term.now) → DerivesIf (reflexive_fits (image term.now)) result h (image term.now) }
 {
-    let _premise = recorder.thm(premise).concl();
-    let _type = term.ty();
-    recorder.theory_is_legal();
     let reflexive = steps::refl_known(recorder, term)?;
     steps::eq_mp_known(recorder, &reflexive, premise)
 }
 
 /// From `p` and `q`, `q`, with the hypotheses of the first, and those of the second but `p`, in two steps.
-pub fn cut(recorder: &mut Recorder, first: &Rec, second: &Rec) -> Result<Rec, Fault>
+pub fn cut(recorder: &mut Recorder, first: &Rec, second: &Rec) -> Made
     requires first { IsMade recorder.old first.now }
     requires second { IsMade recorder.old second.now }
     ensures continues { Continues recorder.old recorder.new result }
@@ -152,7 +146,7 @@ pub fn cut(recorder: &mut Recorder, first: &Rec, second: &Rec) -> Result<Rec, Fa
 }
 
 /// From `p` and `q`, `q`, as `cut`, where the second theorem has no hypothesis but `p`, which is not compared for it.
-pub fn cut_known(recorder: &mut Recorder, first: &Rec, second: &Rec) -> Result<Rec, Fault>
+pub fn cut_known(recorder: &mut Recorder, first: &Rec, second: &Rec) -> Made
     requires first { IsMade recorder.old first.now }
     requires second { IsMade recorder.old second.now }
     requires fits { DeductFits first.now.theorem second.now.theorem }
@@ -170,7 +164,7 @@ pub fn cut_known(recorder: &mut Recorder, first: &Rec, second: &Rec) -> Result<R
 /// where the theory does not know a type or a constant of it. Walks `p`; where a proof shows that it is a formula that the
 /// theory knows, `add_assum_known`.
 #[tactic(auto, using(crate::proofs::InferredEquality::infers_add_assum))]
-pub fn add_assum(recorder: &mut Recorder, p: &Term, premise: &Rec) -> Result<Rec, Fault>
+pub fn add_assum(recorder: &mut Recorder, p: &Term, premise: &Rec) -> Made
     requires { IsMade recorder.old premise.now }
     ensures continues { Continues recorder.old recorder.new result }
     ensures outcome { AnswersStated (theorem_in result) (image p.now ∷ terms_of_theorem premise.now.theorem) (add_assum_outcome recorder.old.theory p.now premise.now.theorem) }
@@ -183,7 +177,7 @@ pub fn add_assum(recorder: &mut Recorder, p: &Term, premise: &Rec) -> Result<Rec
 
 /// ADD_ASSUM of a formula that the theory knows, which is not walked for it, in three steps.
 #[tactic(auto, using(crate::proofs::InferredEquality::infers_add_assum))]
-pub fn add_assum_known(recorder: &mut Recorder, p: &Term, premise: &Rec) -> Result<Rec, Fault>
+pub fn add_assum_known(recorder: &mut Recorder, p: &Term, premise: &Rec) -> Made
     requires premise { IsMade recorder.old premise.now }
     requires formula { IsFormula recorder.old.theory p.now }
     ensures continues { Continues recorder.old recorder.new result }
@@ -198,7 +192,7 @@ pub fn add_assum_known(recorder: &mut Recorder, p: &Term, premise: &Rec) -> Resu
 /// PROVE_HYP: from `p` and `q`, `q` without the hypothesis `p`, and with the hypotheses of the first where `p` is one of
 /// the second's, in two steps.
 #[tactic(auto, using(crate::proofs::InferredEquality::infers_prove_hyp))]
-pub fn prove_hyp(recorder: &mut Recorder, first: &Rec, second: &Rec) -> Result<Rec, Fault>
+pub fn prove_hyp(recorder: &mut Recorder, first: &Rec, second: &Rec) -> Made
     requires first { IsMade recorder.old first.now }
     requires second { IsMade recorder.old second.now }
     ensures continues { Continues recorder.old recorder.new result }
@@ -221,7 +215,7 @@ fn is_alpha_among(term: &Term, terms: &[Term]) -> bool
 }
 
 // BETA_CONV up to the names of bound variables: BETA at the abstraction's own variable, and the argument for it.
-fn beta_converted(recorder: &mut Recorder, term: &Term) -> Result<Rec, Fault>
+fn beta_converted(recorder: &mut Recorder, term: &Term) -> Made
     ensures continues { Continues recorder.old recorder.new result }
     ensures outcome { AnswersStated (theorem_in result) (image term.now ∷ []) (beta_converted_outcome recorder.old.theory term.now) }
 {
@@ -239,7 +233,7 @@ fn beta_converted(recorder: &mut Recorder, term: &Term) -> Result<Rec, Fault>
 /// BETA_CONV: for `(\x. b) a` the theorem `(\x. b) a = b[a/x]`, the left side as it is. Refused where the term is no
 /// abstraction that is applied, and then where the theory does not know a type or a constant of it.
 #[tactic(auto, using(crate::proofs::InferredEquality::infers_beta_conv))]
-pub fn beta_conv(recorder: &mut Recorder, term: &Term) -> Result<Rec, Fault>
+pub fn beta_conv(recorder: &mut Recorder, term: &Term) -> Made
     ensures continues { Continues recorder.old recorder.new result }
     ensures outcome { AnswersStated (theorem_in result) (image term.now ∷ []) (beta_conv_outcome recorder.old.theory term.now) }
     ensures inferred { Infers recorder.old.theory (rules.BetaConv term.now) [] (theorem_in result) }

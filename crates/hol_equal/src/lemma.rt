@@ -13,9 +13,8 @@ ghost use Rattle.hol_equal.specs.Sequents.{Shows, DerivesIf, instance_of};
 ghost use Rattle.hol_equal.specs.Fits.{LemmaFits};
 
 use crate::equality::cut_known;
-use crate::steps;
+use crate::steps::{self, Made};
 use hol_journal::{Rec, Recorder};
-use hol_model::Fault;
 use hol_terms::Term;
 use hol_types::Ty;
 
@@ -26,7 +25,7 @@ pub fn instance_known(
     types: &[(Ty, Ty)],
     terms: &[(Term, Term)],
     lemma: &Rec,
-) -> Result<Rec, Fault>
+) -> Made
     requires lemma { IsMade recorder.old lemma.now }
     requires known { replacements_refusal recorder.old.theory terms.now ≡ None }
     ensures continues { Continues recorder.old recorder.new result }
@@ -52,7 +51,7 @@ pub fn by_fitting_lemma(
     terms: &[(Term, Term)],
     lemma: &Rec,
     premise: &Rec,
-) -> Result<Rec, Fault>
+) -> Made
     requires lemma { IsMade recorder.old lemma.now }
     requires premise { IsMade recorder.old premise.now }
     requires types { type_replacements_refusal recorder.old.theory types.now ≡ None }

@@ -12,4 +12,6 @@ pub use equality::{
     sym,
 };
 pub use lemma::{by_fitting_lemma, instance_known};
-pub use steps::{abs, assume, assume_known, conclusion_of, eq_mp, eq_mp_known, trans, trans_known};
+pub use steps::{
+    Made, abs, assume, assume_known, conclusion_of, eq_mp, eq_mp_known, trans, trans_known,
+};

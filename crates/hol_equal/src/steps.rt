@@ -23,6 +23,9 @@ use hol_model::Fault;
 use hol_terms::Term;
 use hol_types::Ty;
 
+/// What a rule answers: the theorem that the recorder made, or the refusal.
+pub type Made = Result<Rec, Fault>;
+
 /// The conclusion of a theorem that this recorder made.
 pub fn conclusion_of<'a>(recorder: &Recorder, premise: &'a Rec) -> &'a Term
     requires { IsMade recorder.now premise.now }
@@ -36,7 +39,7 @@ pub fn conclusion_of<'a>(recorder: &Recorder, premise: &'a Rec) -> &'a Term
 }
 
 // REFL, which walks the term.
-pub(crate) fn refl(recorder: &mut Recorder, term: &Term) -> Result<Rec, Fault>
+pub(crate) fn refl(recorder: &mut Recorder, term: &Term) -> Made
     ensures continues { Continues recorder.old recorder.new result }
     ensures names { IfOk result (λ made. made.theorem.conclusion ≡ equation term.now term.now) }
     ensures derives { (ty : HolType) → IsKnown recorder.old.theory (image term.now) ty → Derives result [] (nameless_equation ty (image term.now) (image term.now)) }
@@ -45,7 +48,7 @@ pub(crate) fn refl(recorder: &mut Recorder, term: &Term) -> Result<Rec, Fault>
 }
 
 // REFL, of a term that the theory knows, which is not walked for it.
-pub(crate) fn refl_known(recorder: &mut Recorder, term: &Term) -> Result<Rec, Fault>
+pub(crate) fn refl_known(recorder: &mut Recorder, term: &Term) -> Made
     requires { is_known recorder.old.theory term.now ≡ true }
     ensures continues { Continues recorder.old recorder.new result }
     ensures names { IfOk result (λ made. made.theorem.conclusion ≡ equation term.now term.now) }
@@ -55,7 +58,7 @@ pub(crate) fn refl_known(recorder: &mut Recorder, term: &Term) -> Result<Rec, Fa
 }
 
 /// ASSUME, which walks the term; for a formula that the theory knows, `assume_known`.
-pub fn assume(recorder: &mut Recorder, term: &Term) -> Result<Rec, Fault>
+pub fn assume(recorder: &mut Recorder, term: &Term) -> Made
     ensures continues { Continues recorder.old recorder.new result }
     ensures outcome { Answers (theorem_in result) (assume_outcome recorder.old.theory term.now) }
     ensures gives { IsKnown recorder.old.theory (image term.now) bool_type → Gives result (image term.now ∷ []) (image term.now) }
@@ -64,7 +67,7 @@ pub fn assume(recorder: &mut Recorder, term: &Term) -> Result<Rec, Fault>
 }
 
 /// ASSUME, of a formula that the theory knows, which is not walked for it.
-pub fn assume_known(recorder: &mut Recorder, term: &Term) -> Result<Rec, Fault>
+pub fn assume_known(recorder: &mut Recorder, term: &Term) -> Made
     requires { IsFormula recorder.old.theory term.now }
     ensures continues { Continues recorder.old recorder.new result }
     ensures outcome { Answers (theorem_in result) (assume_outcome recorder.old.theory term.now) }
@@ -74,7 +77,7 @@ pub fn assume_known(recorder: &mut Recorder, term: &Term) -> Result<Rec, Fault>
 }
 
 // BETA, of a redex that the theory knows, which is not walked for it.
-pub(crate) fn beta_known(recorder: &mut Recorder, term: &Term) -> Result<Rec, Fault>
+pub(crate) fn beta_known(recorder: &mut Recorder, term: &Term) -> Made
     requires { is_known recorder.old.theory term.now ≡ true }
     ensures continues { Continues recorder.old recorder.new result }
     ensures derives { (name : List ℕ) (domain codomain : HolType) (body : NamedTerm)
@@ -86,7 +89,7 @@ pub(crate) fn beta_known(recorder: &mut Recorder, term: &Term) -> Result<Rec, Fa
 }
 
 /// TRANS, of theorems that show sequents. Compares the middle terms; for equations that a proof shows to fit, `trans_known`.
-pub fn trans(recorder: &mut Recorder, first: &Rec, second: &Rec) -> Result<Rec, Fault>
+pub fn trans(recorder: &mut Recorder, first: &Rec, second: &Rec) -> Made
     requires first { IsMade recorder.old first.now }
     requires second { IsMade recorder.old second.now }
     ensures continues { Continues recorder.old recorder.new result }
@@ -99,7 +102,7 @@ pub fn trans(recorder: &mut Recorder, first: &Rec, second: &Rec) -> Result<Rec, 
 }
 
 /// TRANS, of equations that fit, whose middle terms are not compared for it.
-pub fn trans_known(recorder: &mut Recorder, first: &Rec, second: &Rec) -> Result<Rec, Fault>
+pub fn trans_known(recorder: &mut Recorder, first: &Rec, second: &Rec) -> Made
     requires first { IsMade recorder.old first.now }
     requires second { IsMade recorder.old second.now }
     requires fits { TransFits first.now.theorem second.now.theorem }
@@ -114,7 +117,7 @@ pub fn trans_known(recorder: &mut Recorder, first: &Rec, second: &Rec) -> Result
 
 /// EQ_MP, of theorems that show sequents. Compares the left side with the second conclusion; for premises that a proof
 /// shows to fit, `eq_mp_known`.
-pub fn eq_mp(recorder: &mut Recorder, first: &Rec, second: &Rec) -> Result<Rec, Fault>
+pub fn eq_mp(recorder: &mut Recorder, first: &Rec, second: &Rec) -> Made
     requires first { IsMade recorder.old first.now }
     requires second { IsMade recorder.old second.now }
     ensures continues { Continues recorder.old recorder.new result }
@@ -126,7 +129,7 @@ pub fn eq_mp(recorder: &mut Recorder, first: &Rec, second: &Rec) -> Result<Rec, 
 }
 
 /// EQ_MP, of an equation and its left side, which are not compared for it.
-pub fn eq_mp_known(recorder: &mut Recorder, first: &Rec, second: &Rec) -> Result<Rec, Fault>
+pub fn eq_mp_known(recorder: &mut Recorder, first: &Rec, second: &Rec) -> Made
     requires first { IsMade recorder.old first.now }
     requires second { IsMade recorder.old second.now }
     requires fits { EqMpFits first.now.theorem second.now.theorem }
@@ -139,7 +142,7 @@ pub fn eq_mp_known(recorder: &mut Recorder, first: &Rec, second: &Rec) -> Result
 }
 
 /// MK_COMB, of theorems that show sequents.
-pub fn mk_comb(recorder: &mut Recorder, first: &Rec, second: &Rec) -> Result<Rec, Fault>
+pub fn mk_comb(recorder: &mut Recorder, first: &Rec, second: &Rec) -> Made
     requires first { IsMade recorder.old first.now }
     requires second { IsMade recorder.old second.now }
     ensures continues { Continues recorder.old recorder.new result }
@@ -155,7 +158,7 @@ pub fn mk_comb(recorder: &mut Recorder, first: &Rec, second: &Rec) -> Result<Rec
 }
 
 /// DEDUCT_ANTISYM_RULE of theorems that show sequents: each hypothesis that is equal to the other conclusion goes.
-pub fn deduct_antisym(recorder: &mut Recorder, first: &Rec, second: &Rec) -> Result<Rec, Fault>
+pub fn deduct_antisym(recorder: &mut Recorder, first: &Rec, second: &Rec) -> Made
     requires first { IsMade recorder.old first.now }
     requires second { IsMade recorder.old second.now }
     ensures continues { Continues recorder.old recorder.new result }
@@ -168,11 +171,7 @@ pub fn deduct_antisym(recorder: &mut Recorder, first: &Rec, second: &Rec) -> Res
 }
 
 /// DEDUCT_ANTISYM_RULE, where the second theorem has no hypothesis but the first conclusion, which is not compared for it.
-pub fn deduct_antisym_known(
-    recorder: &mut Recorder,
-    first: &Rec,
-    second: &Rec,
-) -> Result<Rec, Fault>
+pub fn deduct_antisym_known(recorder: &mut Recorder, first: &Rec, second: &Rec) -> Made
     requires first { IsMade recorder.old first.now }
     requires second { IsMade recorder.old second.now }
     requires fits { DeductFits first.now.theorem second.now.theorem }
@@ -186,7 +185,7 @@ pub fn deduct_antisym_known(
 }
 
 /// ABS of a theorem that shows a sequent, over a variable of a known type that is free in no hypothesis.
-pub fn abs(recorder: &mut Recorder, binder: &Term, premise: &Rec) -> Result<Rec, Fault>
+pub fn abs(recorder: &mut Recorder, binder: &Term, premise: &Rec) -> Made
     requires { IsMade recorder.old premise.now }
     ensures continues { Continues recorder.old recorder.new result }
     ensures concludes { IfOk result (λ made. (name : List ℕ) (domain codomain : HolType) (s t : Nameless) → image binder.now ≡ free name domain
@@ -201,11 +200,7 @@ pub fn abs(recorder: &mut Recorder, binder: &Term, premise: &Rec) -> Result<Rec,
 }
 
 // INST, by terms of the variables' types that the theory knows, which are not walked for it.
-pub(crate) fn inst_known(
-    recorder: &mut Recorder,
-    theta: &[(Term, Term)],
-    premise: &Rec,
-) -> Result<Rec, Fault>
+pub(crate) fn inst_known(recorder: &mut Recorder, theta: &[(Term, Term)], premise: &Rec) -> Made
     requires premise { IsMade recorder.old premise.now }
     requires known { replacements_refusal recorder.old.theory theta.now ≡ None }
     ensures continues { Continues recorder.old recorder.new result }
@@ -216,11 +211,7 @@ pub(crate) fn inst_known(
 }
 
 // INST_TYPE, by known types.
-pub(crate) fn inst_type(
-    recorder: &mut Recorder,
-    theta: &[(Ty, Ty)],
-    premise: &Rec,
-) -> Result<Rec, Fault>
+pub(crate) fn inst_type(recorder: &mut Recorder, theta: &[(Ty, Ty)], premise: &Rec) -> Made
     requires { IsMade recorder.old premise.now }
     ensures continues { Continues recorder.old recorder.new result }
     ensures derives { type_replacements_refusal recorder.old.theory theta.now ≡ None → (h : List Nameless) (c : Nameless)

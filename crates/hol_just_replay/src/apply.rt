@@ -12,7 +12,7 @@ use hol_bool::{
     conj, conjunct1, conjunct2, contr, disch, disj_cases, disj1, disj2, eqt_elim, eqt_intro, mp,
     not_elim, not_intro, primitive_rules_infer, undisch,
 };
-use hol_equal::{add_assum, beta_conv, conclusion_of, prove_hyp, sym};
+use hol_equal::{Made, add_assum, beta_conv, conclusion_of, prove_hyp, sym};
 use hol_journal::{Inference, Rec, Recorder};
 use hol_just::Rule;
 use hol_model::Fault;
@@ -20,7 +20,7 @@ use hol_prelude::Bool;
 use hol_quant::{choose, exists, generalize, spec};
 
 // The refusal of a rule that takes another number of premises.
-fn refuse(recorder: &mut Recorder) -> Result<Rec, Fault>
+fn refuse(recorder: &mut Recorder) -> Made
     ensures continues { Continues recorder.old recorder.new result }
     ensures refused { result ≡ Err InvalidStep }
 {
@@ -30,7 +30,7 @@ fn refuse(recorder: &mut Recorder) -> Result<Rec, Fault>
 
 // A rule without premises. Here and below a term's type and a premise's conclusion are read for what is known of them.
 #[tactic(auto, using(crate::proofs::Rooms::rooms_of_none))]
-fn on_none(recorder: &mut Recorder, logic: &Bool, rule: &Rule) -> Result<Rec, Fault>
+fn on_none(recorder: &mut Recorder, logic: &Bool, rule: &Rule) -> Made
     requires logic { HasLogic recorder.old logic.now }
     ensures continues { Continues recorder.old recorder.new result }
     ensures inferred { Infers recorder.old.theory rule.now [] (theorem_in result) }
@@ -64,7 +64,7 @@ fn on_none(recorder: &mut Recorder, logic: &Bool, rule: &Rule) -> Result<Rec, Fa
 
 // A rule of one premise.
 #[tactic(auto, using(crate::proofs::Rooms::rooms_of_one))]
-fn on_one(recorder: &mut Recorder, logic: &Bool, rule: &Rule, premise: &Rec) -> Result<Rec, Fault>
+fn on_one(recorder: &mut Recorder, logic: &Bool, rule: &Rule, premise: &Rec) -> Made
     requires logic { HasLogic recorder.old logic.now }
     requires premise { IsMade recorder.old premise.now }
     ensures continues { Continues recorder.old recorder.new result }
@@ -122,13 +122,7 @@ fn on_one(recorder: &mut Recorder, logic: &Bool, rule: &Rule, premise: &Rec) -> 
 
 // A rule of two premises.
 #[tactic(auto, using(crate::proofs::Rooms::rooms_of_two))]
-fn on_two(
-    recorder: &mut Recorder,
-    logic: &Bool,
-    rule: &Rule,
-    first: &Rec,
-    second: &Rec,
-) -> Result<Rec, Fault>
+fn on_two(recorder: &mut Recorder, logic: &Bool, rule: &Rule, first: &Rec, second: &Rec) -> Made
     requires logic { HasLogic recorder.old logic.now }
     requires first { IsMade recorder.old first.now }
     requires second { IsMade recorder.old second.now }
@@ -162,7 +156,7 @@ fn on_three(
     first: &Rec,
     second: &Rec,
     third: &Rec,
-) -> Result<Rec, Fault>
+) -> Made
     requires logic { HasLogic recorder.old logic.now }
     requires first { IsMade recorder.old first.now }
     requires second { IsMade recorder.old second.now }
@@ -181,7 +175,7 @@ fn on_three(
 
 // The refusal of too many premises.
 #[tactic(auto, using(crate::proofs::Premises::too_many_lent))]
-fn refuse_many(recorder: &mut Recorder, rule: &Rule, premises: &[&Rec]) -> Result<Rec, Fault>
+fn refuse_many(recorder: &mut Recorder, rule: &Rule, premises: &[&Rec]) -> Made
     requires { 3 < length premises.now }
     ensures continues { Continues recorder.old recorder.new result }
     ensures inferred { Infers recorder.old.theory rule.now (lent_theorems premises.now) (theorem_in result) }
@@ -197,12 +191,7 @@ fn refuse_many(recorder: &mut Recorder, rule: &Rule, premises: &[&Rec]) -> Resul
 /// answers by the rule's own outcome, and the theorem has the sequent that the table of rules draws; where it draws none,
 /// the rule is refused. TooLarge comes only where a term that the rule takes, of a premise, or of what is drawn leaves no
 /// room.
-pub fn apply_rule(
-    recorder: &mut Recorder,
-    logic: &Bool,
-    rule: &Rule,
-    premises: &[&Rec],
-) -> Result<Rec, Fault>
+pub fn apply_rule(recorder: &mut Recorder, logic: &Bool, rule: &Rule, premises: &[&Rec]) -> Made
     requires logic { HasLogic recorder.old logic.now }
     requires premises { AreLent recorder.old premises.now }
     ensures continues { Continues recorder.old recorder.new result }

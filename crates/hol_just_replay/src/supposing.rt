@@ -21,7 +21,7 @@ ghost use Rattle.hol_just.specs.Steps.{goal_of, goals_of};
 ghost use Rattle.hol_just_replay.specs.Accepting.{falsity_from, with_assumptions, supposed_from, are_known_formulas, is_known_goal, are_known_goals, AreSupposed, IsUnsupposed, HasGoalRoom};
 
 use hol_bool::{conj, conjunct1, contr, contr_known};
-use hol_equal::{add_assum, add_assum_known, assume, conclusion_of};
+use hol_equal::{Made, add_assum, add_assum_known, assume, conclusion_of};
 use hol_journal::{Rec, Recorder};
 use hol_just::Goal;
 use hol_model::Fault;
@@ -41,7 +41,7 @@ fn falsity(alloc: Global) -> Result<Term, Fault>
 
 // From `F`, `F`.
 #[tactic(auto, using(crate::proofs::SupposingLemmas::supposing))]
-pub(crate) fn falsity_once(recorder: &mut Recorder, logic: &Bool) -> Result<Rec, Fault>
+pub(crate) fn falsity_once(recorder: &mut Recorder, logic: &Bool) -> Made
     requires logic { HasLogic recorder.old logic.now }
     ensures continues { Continues recorder.old recorder.new result }
     ensures drawn { IsDrawn (Some (falsity_from false_term)) (theorem_in result) }
@@ -56,7 +56,7 @@ pub(crate) fn falsity_once(recorder: &mut Recorder, logic: &Bool) -> Result<Rec,
 
 // From `F`, `F /\ F`.
 #[tactic(auto, using(crate::proofs::SupposingLemmas::supposing))]
-fn conjoined(recorder: &mut Recorder, logic: &Bool) -> Result<Rec, Fault>
+fn conjoined(recorder: &mut Recorder, logic: &Bool) -> Made
     requires logic { HasLogic recorder.old logic.now }
     ensures continues { Continues recorder.old recorder.new result }
     ensures drawn { IsDrawn (Some (record { hypotheses = false_term ∷ []; conclusion = false_twice })) (theorem_in result) }
@@ -69,7 +69,7 @@ fn conjoined(recorder: &mut Recorder, logic: &Bool) -> Result<Rec, Fault>
 
 // From `F /\ F`, `F /\ F`.
 #[tactic(auto, using(crate::proofs::SupposingLemmas::supposing))]
-fn conjunction_assumed(recorder: &mut Recorder, logic: &Bool) -> Result<Rec, Fault>
+fn conjunction_assumed(recorder: &mut Recorder, logic: &Bool) -> Made
     requires logic { HasLogic recorder.old logic.now }
     ensures continues { Continues recorder.old recorder.new result }
     ensures drawn { IsDrawn (Some (record { hypotheses = false_twice ∷ []; conclusion = false_twice })) (theorem_in result) }
@@ -82,7 +82,7 @@ fn conjunction_assumed(recorder: &mut Recorder, logic: &Bool) -> Result<Rec, Fau
 
 // From `F /\ F`, `F`.
 #[tactic(auto, using(crate::proofs::SupposingLemmas::supposing))]
-pub(crate) fn falsity_twice(recorder: &mut Recorder, logic: &Bool) -> Result<Rec, Fault>
+pub(crate) fn falsity_twice(recorder: &mut Recorder, logic: &Bool) -> Made
     requires logic { HasLogic recorder.old logic.now }
     ensures continues { Continues recorder.old recorder.new result }
     ensures drawn { IsDrawn (Some (falsity_from false_twice)) (theorem_in result) }
@@ -101,7 +101,7 @@ fn contr_unless_known(
     is_known: bool,
     p: &Term,
     premise: &Rec,
-) -> Result<Rec, Fault>
+) -> Made
     requires logic { HasLogic recorder.old logic.now }
     requires premise { IsMade recorder.old premise.now }
     requires known { IsTrue is_known → IsFormula recorder.old.theory p.now }
@@ -116,12 +116,7 @@ fn contr_unless_known(
 }
 
 // ADD_ASSUM, which walks the formula unless it is known.
-fn add_assum_unless_known(
-    recorder: &mut Recorder,
-    is_known: bool,
-    p: &Term,
-    premise: &Rec,
-) -> Result<Rec, Fault>
+fn add_assum_unless_known(recorder: &mut Recorder, is_known: bool, p: &Term, premise: &Rec) -> Made
     requires premise { IsMade recorder.old premise.now }
     requires known { IsTrue is_known → IsFormula recorder.old.theory p.now }
     ensures continues { Continues recorder.old recorder.new result }
@@ -140,7 +135,7 @@ fn with_assumptions(
     are_known: bool,
     assumptions: &[Term],
     mut theorem: Rec,
-) -> Result<Rec, Fault>
+) -> Made
     requires held { IsHeld recorder.old theorem }
     requires known { IsTrue are_known → are_known_formulas recorder.old.theory assumptions.now ≡ true }
     ensures continues { Continues recorder.old recorder.new result }
@@ -161,7 +156,7 @@ fn supposed_from(
     falsity: &Rec,
     is_known: bool,
     goal: &Goal,
-) -> Result<Rec, Fault>
+) -> Made
     requires logic { HasLogic recorder.old logic.now }
     requires premise { IsMade recorder.old falsity.now }
     requires concludes { image falsity.now.theorem.conclusion ≡ false_term }

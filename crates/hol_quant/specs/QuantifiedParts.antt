@@ -27,9 +27,10 @@ pub record IsWitnessed (theory : Theory) (formula function binder body witness :
   pub witness_known : IsKnown theory (image witness) parts.ty
   pub instance_is : instance ≡ fill (image witness) (close parts.name parts.ty (image body))
 
--- and such a formula
-pub record IsInstance (theory : Theory) (function binder body witness : NamedTerm) (instance : Nameless) : Type 0 where
+-- the abstraction of such a formula, which has the body p
+pub record IsInstance (theory : Theory) (function binder witness : NamedTerm) (instance : Nameless) : Type 0 where
   pub formula : NamedTerm
+  pub body : NamedTerm
   pub witnessed : IsWitnessed theory formula function binder body witness instance
 
 -- the terms of EXISTS that have to leave room

@@ -22,7 +22,7 @@ use crate::instances::by_formula_lemma;
 use crate::parts::quantified_parts;
 use hol_alpha::aconv;
 use hol_bool::{disch_in_room, mp_known};
-use hol_equal::{assume_known, conclusion_of, converted_known, cut, eq_mp_known};
+use hol_equal::{Made, assume_known, conclusion_of, converted_known, cut, eq_mp_known};
 use hol_journal::{Rec, Recorder};
 use hol_model::Fault;
 use hol_prelude::{Bool, numbers, theorem_of};
@@ -59,7 +59,7 @@ fn from_redex(
     binder: &Term,
     argument: &Term,
     applied: &Term,
-) -> Result<Rec, Fault>
+) -> Made
     requires at { IsAtVariable recorder.old.theory function.now binder.now argument.now }
     requires applied { applied.now ≡ combination function.now argument.now }
     ensures continues { Continues recorder.old recorder.new result }
@@ -81,7 +81,7 @@ fn implied_by_redex(
     binder: &Term,
     argument: &Term,
     premise: &Rec,
-) -> Result<Rec, Fault>
+) -> Made
     requires logic { HasLogic recorder.old logic.now }
     requires at { IsAtVariable recorder.old.theory function.now binder.now argument.now }
     requires premise { IsMade recorder.old premise.now }
@@ -109,7 +109,7 @@ fn choose_in_room(
     argument: &Term,
     first: &Rec,
     second: &Rec,
-) -> Result<Rec, Fault>
+) -> Made
     requires logic { HasLogic recorder.old logic.now }
     requires choice { MayChoose recorder.old.theory function.now binder.now argument.now first.now.theorem second.now.theorem }
     requires first { IsMade recorder.old first.now }
@@ -139,7 +139,7 @@ pub fn choose(
     variable: &Term,
     first: &Rec,
     second: &Rec,
-) -> Result<Rec, Fault>
+) -> Made
     requires logic { HasLogic recorder.old logic.now }
     requires first { IsMade recorder.old first.now }
     requires second { IsMade recorder.old second.now }

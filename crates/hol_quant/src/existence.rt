@@ -4,7 +4,7 @@ ghost use Rattle.std.specs.List.{list_all};
 ghost use Rattle.hol_model.specs.declared.fault.Fault.TheVariants.{Memory};
 ghost use Rattle.hol_model.specs.Terms.HolType.{HolType, bool_type};
 ghost use Rattle.hol_model.specs.Logic.NamedLogic.{true_term};
-ghost use Rattle.hol_model.specs.Terms.NamedTerm.{NamedTerm, variable, type_of};
+ghost use Rattle.hol_model.specs.Terms.NamedTerm.{variable, type_of};
 ghost use Rattle.hol_model.specs.Terms.Nameless.{Nameless, free, app, image, same_term};
 ghost use Rattle.hol_model.specs.Terms.Substitution.{close, fill};
 ghost use Rattle.hol_model.specs.Logic.Derivable.{nameless_equation};
@@ -25,7 +25,7 @@ use crate::instances::by_predicate_lemma;
 use crate::parts::{Quantified, quantified_parts};
 use hol_alpha::aconv;
 use hol_bool::{formula_pair, pass_known};
-use hol_equal::{by_fitting_lemma, conclusion_of, converted_known, named_same, trans_known};
+use hol_equal::{Made, by_fitting_lemma, conclusion_of, converted_known, named_same, trans_known};
 use hol_journal::{Rec, Recorder};
 use hol_model::Fault;
 use hol_prelude::{Bool, numbers, theorem_of};
@@ -59,12 +59,7 @@ fn is_body_with(
 }
 
 // From `p <=> T`, `p`.
-fn from_truth(
-    recorder: &mut Recorder,
-    logic: &Bool,
-    formula: &Term,
-    premise: &Rec,
-) -> Result<Rec, Fault>
+fn from_truth(recorder: &mut Recorder, logic: &Bool, formula: &Term, premise: &Rec) -> Made
     requires logic { HasLogic recorder.old logic.now }
     requires premise { IsMade recorder.old premise.now }
     requires known { IsKnown recorder.old.theory (image formula.now) bool_type }
@@ -86,23 +81,22 @@ fn from_truth(
 fn expanded(
     recorder: &mut Recorder,
     logic: &Bool,
-    parts: Quantified<'_>,
+    function: &Term,
+    binder: &Term,
     witness: &Term,
     premise: &Rec,
-) -> Result<Rec, Fault>
+) -> Made
     requires logic { HasLogic recorder.old logic.now }
     requires premise { IsMade recorder.old premise.now }
-    requires instance { IsInstance recorder.old.theory parts.predicate.now parts.binder.now parts.body.now witness.now (image premise.now.theorem.conclusion) }
+    requires instance { IsInstance recorder.old.theory function.now binder.now witness.now (image premise.now.theorem.conclusion) }
     ensures continues { Continues recorder.old recorder.new result }
-    ensures derives { (formula : NamedTerm)
-        → IsWitnessed recorder.old.theory formula parts.entry.predicate.now parts.entry.binder.now parts.entry.body.now witness.now
-        (image premise.now.theorem.conclusion) → DerivesIf (list_all is_roomy
-        (witnessed_terms formula witness.now (image premise.now.theorem.conclusion))) result (images premise.now.theorem)
-        (app (image parts.entry.predicate.now) (image witness.now)) }
+    ensures derives { (at : IsInstance recorder.old.theory function.now binder.now witness.now (image premise.now.theorem.conclusion))
+        → DerivesIf (list_all is_roomy (witnessed_terms at.formula witness.now (image premise.now.theorem.conclusion))) result
+        (images premise.now.theorem) (app (image function.now) (image witness.now)) }
 {
     let alloc = recorder.alloc();
-    let redex = Term::mk_comb(alloc, parts.predicate, witness)?;
-    let conversion = converted_known(recorder, parts.predicate, parts.binder, witness)?;
+    let redex = Term::mk_comb(alloc, function, witness)?;
+    let conversion = converted_known(recorder, function, binder, witness)?;
     let equal = equal_to_truth(recorder, logic, premise)?;
     let redex_equal = trans_known(recorder, &conversion, &equal)?;
     from_truth(recorder, logic, &redex, &redex_equal)
@@ -116,7 +110,7 @@ fn exists_in_room(
     parts: Quantified<'_>,
     witness: &Term,
     premise: &Rec,
-) -> Result<Rec, Fault>
+) -> Made
     requires logic { HasLogic recorder.old logic.now }
     requires premise { IsMade recorder.old premise.now }
     requires witnessed { IsWitnessed recorder.old.theory formula.now parts.predicate.now parts.binder.now parts.body.now witness.now
@@ -128,7 +122,14 @@ fn exists_in_room(
         (witnessed_terms formula.now witness.now (image premise.now.theorem.conclusion))) result (images premise.now.theorem) (image formula.now) }
 {
     let lemma = theorem_of(recorder, logic, numbers::EXISTS);
-    let redex = expanded(recorder, logic, parts, witness, premise)?;
+    let redex = expanded(
+        recorder,
+        logic,
+        parts.predicate,
+        parts.binder,
+        witness,
+        premise,
+    )?;
     let answer = by_predicate_lemma(recorder, lemma, parts.predicate, witness, &redex)?;
     let _answer = conclusion_of(recorder, &answer);
     named_same(recorder, formula, &answer)
@@ -145,7 +146,7 @@ pub fn exists(
     formula: &Term,
     witness: &Term,
     premise: &Rec,
-) -> Result<Rec, Fault>
+) -> Made
     requires logic { HasLogic recorder.old logic.now }
     requires premise { IsMade recorder.old premise.now }
     ensures continues { Continues recorder.old recorder.new result }

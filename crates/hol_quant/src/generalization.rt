@@ -22,7 +22,7 @@ ghost use Rattle.hol_quant.specs.Universals.{IsKnownVariable, IsAbstracted, for_
 
 use crate::instances::by_predicate_lemma;
 use hol_bool::formula_pair;
-use hol_equal::{abs, by_fitting_lemma, conclusion_of, named_same};
+use hol_equal::{Made, abs, by_fitting_lemma, conclusion_of, named_same};
 use hol_journal::{Rec, Recorder};
 use hol_model::Fault;
 use hol_prelude::{Bool, numbers, theorem_of};
@@ -31,11 +31,7 @@ use hol_types::Ty;
 use std::alloc::Global;
 
 // From `p`, `p <=> T`.
-pub(crate) fn equal_to_truth(
-    recorder: &mut Recorder,
-    logic: &Bool,
-    premise: &Rec,
-) -> Result<Rec, Fault>
+pub(crate) fn equal_to_truth(recorder: &mut Recorder, logic: &Bool, premise: &Rec) -> Made
     requires logic { HasLogic recorder.old logic.now }
     requires premise { IsMade recorder.old premise.now }
     ensures continues { Continues recorder.old recorder.new result }
@@ -79,7 +75,7 @@ fn over_all(
     binder: &Term,
     function: &Term,
     premise: &Rec,
-) -> Result<Rec, Fault>
+) -> Made
     requires logic { HasLogic recorder.old logic.now }
     requires premise { IsMade recorder.old premise.now }
     requires function { IsAbstracted recorder.old.theory binder.now premise.now.theorem.conclusion function.now }
@@ -101,7 +97,7 @@ pub(crate) fn gen_in_room(
     logic: &Bool,
     binder: &Term,
     premise: &Rec,
-) -> Result<Rec, Fault>
+) -> Made
     requires logic { HasLogic recorder.old logic.now }
     requires premise { IsMade recorder.old premise.now }
     requires variable { IsKnownVariable recorder.old.theory binder.now }
@@ -120,12 +116,7 @@ pub(crate) fn gen_in_room(
 /// term is no variable, then where the theory does not know a type of its type, and then where it is free in a
 /// hypothesis.
 #[tactic(auto, using(crate::proofs::InferredQuantifiers::infers_gen))]
-pub fn generalize(
-    recorder: &mut Recorder,
-    logic: &Bool,
-    binder: &Term,
-    premise: &Rec,
-) -> Result<Rec, Fault>
+pub fn generalize(recorder: &mut Recorder, logic: &Bool, binder: &Term, premise: &Rec) -> Made
     requires logic { HasLogic recorder.old logic.now }
     requires premise { IsMade recorder.old premise.now }
     ensures continues { Continues recorder.old recorder.new result }

@@ -14,7 +14,7 @@ ghost use Rattle.hol_equal.specs.Sequents.{Shows, DerivesIf};
 ghost use Rattle.hol_quant.specs.PredicateLemmas.{PredicateFits, at_predicate, lemma_fits, FormulaFits, at_formula, formula_lemma_fits};
 
 use hol_bool::formula_pair;
-use hol_equal::by_fitting_lemma;
+use hol_equal::{Made, by_fitting_lemma};
 use hol_journal::{Rec, Recorder};
 use hol_model::Fault;
 use hol_terms::Term;
@@ -50,7 +50,7 @@ pub(crate) fn by_predicate_lemma(
     function: &Term,
     element: &Term,
     premise: &Rec,
-) -> Result<Rec, Fault>
+) -> Made
     requires lemma { IsMade recorder.old lemma.now }
     requires premise { IsMade recorder.old premise.now }
     requires fits { PredicateFits recorder.old.theory function.now element.now lemma.now.theorem premise.now.theorem }
@@ -78,7 +78,7 @@ pub(crate) fn by_formula_lemma(
     element: &Term,
     formula: &Term,
     premise: &Rec,
-) -> Result<Rec, Fault>
+) -> Made
     requires lemma { IsMade recorder.old lemma.now }
     requires premise { IsMade recorder.old premise.now }
     requires formula { IsFormula recorder.old.theory formula.now }

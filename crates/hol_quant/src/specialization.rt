@@ -15,7 +15,7 @@ ghost use Rattle.hol_quant.specs.PredicateLemmas.{applied, over_predicate};
 use crate::instances::by_predicate_lemma;
 use crate::parts::quantified_parts;
 use hol_bool::pass_known;
-use hol_equal::{conclusion_of, converted_known, eq_mp_known};
+use hol_equal::{Made, conclusion_of, converted_known, eq_mp_known};
 use hol_journal::{Rec, Recorder};
 use hol_model::Fault;
 use hol_prelude::{Bool, numbers, theorem_of};
@@ -27,7 +27,7 @@ pub(crate) fn spec_by_lemma(
     lemma: &Rec,
     term: &Term,
     premise: &Rec,
-) -> Result<Rec, Fault>
+) -> Made
     requires lemma { IsMade recorder.old lemma.now }
     requires shows { Shows lemma.now.theorem (over_predicate forall_name ∷ []) applied }
     requires generic { generic_type recorder.old.theory forall_name ≡ Some (quantifier type_a) }
@@ -53,7 +53,7 @@ pub(crate) fn spec_by_lemma(
 /// universal formula, then where the term is of another type than the variable, and then where the theory does not know
 /// a type or a constant of the term.
 #[tactic(auto, using(crate::proofs::InferredQuantifiers::infers_spec))]
-pub fn spec(recorder: &mut Recorder, logic: &Bool, term: &Term, premise: &Rec) -> Result<Rec, Fault>
+pub fn spec(recorder: &mut Recorder, logic: &Bool, term: &Term, premise: &Rec) -> Made
     requires logic { HasLogic recorder.old logic.now }
     requires premise { IsMade recorder.old premise.now }
     ensures continues { Continues recorder.old recorder.new result }

@@ -21,10 +21,10 @@ use Rattle.hol_quant.proofs.existence.exists_in_room.Goals as goal
 pub returns-in_err-redex-clause-derives : goal.returns-in_err-redex-clause-derives
 returns-in_err-redex-clause-derives c at =
     rw (passed_on c.from_residual.result c.in_err-redex.field-0.0 c.from_residual.ensures.1) (
-    c.in_err-redex.ensures.derives c.args.formula.now at)
+    c.in_err-redex.ensures.derives (record { formula = c.args.formula.now; body = c.args.parts.body.now; witnessed = at }))
 
 pub expanded-requires-clause-instance : goal.expanded-requires-clause-instance
-expanded-requires-clause-instance c = record { formula = c.args.formula.now; witnessed = c.requires.witnessed }
+expanded-requires-clause-instance c = record { formula = c.args.formula.now; body = c.args.parts.body.now; witnessed = c.requires.witnessed }
 
 pub by_predicate_lemma-requires-clause-lemma : goal.by_predicate_lemma-requires-clause-lemma
 by_predicate_lemma-requires-clause-lemma c =
@@ -42,7 +42,7 @@ by_predicate_lemma-requires-clause-fits c =
     let instance = image premise.conclusion in
     let at = c.requires.witnessed in
     let later : c.expanded.new.recorder.theory ≡ theory = c.in_ok-redex.ensures.continues.theory in
-    let redex : Shows c.in_ok-redex.redex.theorem (images premise) (app (image function) (image witness)) = c.in_ok-redex.ensures.derives formula at in
+    let redex : Shows c.in_ok-redex.redex.theorem (images premise) (app (image function) (image witness)) = c.in_ok-redex.ensures.derives (record { formula = formula; body = body; witnessed = at }) in
     record {
       ty = at.parts.ty;
       function_known = subst (λ (th : Theory). IsKnown th (image function) (predicate at.parts.ty)) (sym later) (predicate_known theory formula function binder body witness instance at);
@@ -70,7 +70,7 @@ returns-in_err-answer-clause-derives c at =
     let function_known = subst (λ (th : Theory). IsKnown th (image function) (predicate at.parts.ty)) (sym later) (predicate_known theory formula function binder body witness instance at) in
     let witness_known = subst (λ (th : Theory). IsKnown th (image witness) at.parts.ty) (sym later) at.witness_known in
     let premise_shows = subst (λ (t : Nameless). Shows c.in_ok-redex.redex.theorem (images premise) t)
-    (sym (redex-at theory formula function binder body witness instance at)) (c.in_ok-redex.ensures.derives formula at) in
+    (sym (redex-at theory formula function binder body witness instance at)) (c.in_ok-redex.ensures.derives (record { formula = formula; body = body; witnessed = at })) in
     past-room c.in_err-answer.field-0.0 (lemma_fits at.parts.ty function witness applied (over_predicate exists_name)) fits
     (c.in_err-answer.ensures.derives at.parts.ty function_known witness_known (images premise) applied
     (over_predicate exists_name) shows premise_shows) (exists-lemma-within theory formula function binder body witness instance at))
@@ -91,7 +91,7 @@ named_same-requires-clause-formula c =
     let function_known = subst (λ (th : Theory). IsKnown th (image function) (predicate at.parts.ty)) (sym later) (predicate_known theory formula function binder body witness instance at) in
     let witness_known = subst (λ (th : Theory). IsKnown th (image witness) at.parts.ty) (sym later) at.witness_known in
     let premise_shows = subst (λ (t : Nameless). Shows c.in_ok-redex.redex.theorem (images premise) t)
-    (sym (redex-at theory formula function binder body witness instance at)) (c.in_ok-redex.ensures.derives formula at) in
+    (sym (redex-at theory formula function binder body witness instance at)) (c.in_ok-redex.ensures.derives (record { formula = formula; body = body; witnessed = at })) in
     let answer : Shows c.in_ok-answer.answer.theorem (images premise) (image formula) =
     subst (λ (t : Nameless). Shows c.in_ok-answer.answer.theorem (images premise) t) (formula-at theory formula function binder body witness instance at)
     (c.in_ok-answer.ensures.derives at.parts.ty function_known witness_known (images premise) applied (over_predicate exists_name) shows premise_shows) in
@@ -113,7 +113,7 @@ named_same-requires-clause-same c =
     let function_known = subst (λ (th : Theory). IsKnown th (image function) (predicate at.parts.ty)) (sym later) (predicate_known theory formula function binder body witness instance at) in
     let witness_known = subst (λ (th : Theory). IsKnown th (image witness) at.parts.ty) (sym later) at.witness_known in
     let premise_shows = subst (λ (t : Nameless). Shows c.in_ok-redex.redex.theorem (images premise) t)
-    (sym (redex-at theory formula function binder body witness instance at)) (c.in_ok-redex.ensures.derives formula at) in
+    (sym (redex-at theory formula function binder body witness instance at)) (c.in_ok-redex.ensures.derives (record { formula = formula; body = body; witnessed = at })) in
     let answer : Shows c.in_ok-answer.answer.theorem (images premise) (image formula) =
     subst (λ (t : Nameless). Shows c.in_ok-answer.answer.theorem (images premise) t) (formula-at theory formula function binder body witness instance at)
     (c.in_ok-answer.ensures.derives at.parts.ty function_known witness_known (images premise) applied (over_predicate exists_name) shows premise_shows) in
@@ -135,7 +135,7 @@ returns-clause-derives c at =
     let function_known = subst (λ (th : Theory). IsKnown th (image function) (predicate at.parts.ty)) (sym later) (predicate_known theory formula function binder body witness instance at) in
     let witness_known = subst (λ (th : Theory). IsKnown th (image witness) at.parts.ty) (sym later) at.witness_known in
     let premise_shows = subst (λ (t : Nameless). Shows c.in_ok-redex.redex.theorem (images premise) t)
-    (sym (redex-at theory formula function binder body witness instance at)) (c.in_ok-redex.ensures.derives formula at) in
+    (sym (redex-at theory formula function binder body witness instance at)) (c.in_ok-redex.ensures.derives (record { formula = formula; body = body; witnessed = at })) in
     let answer = subst (λ (t : Nameless). Shows c.in_ok-answer.answer.theorem (images premise) t) (formula-at theory formula function binder body witness instance at)
     (c.in_ok-answer.ensures.derives at.parts.ty function_known witness_known (images premise) applied (over_predicate exists_name) shows premise_shows) in
     derives-where (nameless_within_limits (nameless_equation bool_type (image formula) (image formula))) fits c.named_same.result (images premise)

@@ -17,53 +17,61 @@ use Rattle.hol_prelude.proofs.StoredLemmas.{logic-stays}
 use Rattle.hol_quant.proofs.existence.expanded.Goals as goal
 
 pub returns-in_err-redex-clause-derives : goal.returns-in_err-redex-clause-derives
-returns-in_err-redex-clause-derives c formula at =
+returns-in_err-redex-clause-derives c given =
     rw (passed_on c.from_residual.result c.in_err-redex.field-0.0 c.from_residual.ensures.1) (
     let theory = c.args.recorder.now.theory in
-    let function = c.args.parts.predicate.now in
-    let binder = c.args.parts.binder.now in
-    let body = c.args.parts.body.now in
+    let function = c.args.function.now in
+    let binder = c.args.binder.now in
+    let body = given.body in
     let witness = c.args.witness.now in
     let premise = c.args.premise.now.theorem in
     let instance = image premise.conclusion in
+    let formula = given.formula in
+    let at = given.witnessed in
     redex-past theory formula function binder body witness instance at c.in_err-redex.field-0.0 c.in_err-redex.ensures.outcome)
 
 pub returns-in_err-conversion-clause-derives : goal.returns-in_err-conversion-clause-derives
-returns-in_err-conversion-clause-derives c formula at =
+returns-in_err-conversion-clause-derives c given =
     rw (passed_on c.from_residual-in_err-conversion.result c.in_err-conversion.field-0.0 c.from_residual-in_err-conversion.ensures.1) (
     let theory = c.args.recorder.now.theory in
-    let function = c.args.parts.predicate.now in
-    let binder = c.args.parts.binder.now in
-    let body = c.args.parts.body.now in
+    let function = c.args.function.now in
+    let binder = c.args.binder.now in
+    let body = given.body in
     let witness = c.args.witness.now in
     let premise = c.args.premise.now.theorem in
     let instance = image premise.conclusion in
+    let formula = given.formula in
+    let at = given.witnessed in
     conversion-past theory formula function binder body witness instance at c.in_err-conversion.field-0.0
     (c.in_err-conversion.ensures.derives at.parts.name at.parts.ty bool_type body at.parts.function_is at.parts.binder_is at.parts.body_typed
     at.witness_typed (redex_passes theory formula function binder body witness instance at)))
 
 pub returns-in_err-equal-clause-derives : goal.returns-in_err-equal-clause-derives
-returns-in_err-equal-clause-derives c formula at =
+returns-in_err-equal-clause-derives c given =
     rw (passed_on c.from_residual-in_err-equal.result c.in_err-equal.field-0.0 c.from_residual-in_err-equal.ensures.1) (
     let theory = c.args.recorder.now.theory in
-    let function = c.args.parts.predicate.now in
-    let binder = c.args.parts.binder.now in
-    let body = c.args.parts.body.now in
+    let function = c.args.function.now in
+    let binder = c.args.binder.now in
+    let body = given.body in
     let witness = c.args.witness.now in
     let premise = c.args.premise.now.theorem in
     let instance = image premise.conclusion in
+    let formula = given.formula in
+    let at = given.witnessed in
     instance-past theory formula function binder body witness instance at c.in_err-equal.field-0.0 (c.in_err-equal.ensures.derives (is_roomy instance) (roomy-fits instance)))
 
 pub returns-in_err-redex_equal-clause-derives : goal.returns-in_err-redex_equal-clause-derives
-returns-in_err-redex_equal-clause-derives c formula at =
+returns-in_err-redex_equal-clause-derives c given =
     rw (passed_on c.from_residual-in_err-redex_equal.result c.in_err-redex_equal.field-0.0 c.from_residual-in_err-redex_equal.ensures.1) (
     let theory = c.args.recorder.now.theory in
-    let function = c.args.parts.predicate.now in
-    let binder = c.args.parts.binder.now in
-    let body = c.args.parts.body.now in
+    let function = c.args.function.now in
+    let binder = c.args.binder.now in
+    let body = given.body in
     let witness = c.args.witness.now in
     let premise = c.args.premise.now.theorem in
     let instance = image premise.conclusion in
+    let formula = given.formula in
+    let at = given.witnessed in
     let conversion = c.in_ok-conversion.ensures.derives at.parts.name at.parts.ty bool_type body at.parts.function_is at.parts.binder_is
     at.parts.body_typed at.witness_typed (redex_passes theory formula function binder body witness instance at) in
     let conversion_shown = conversion-at theory formula function binder body witness instance at c.in_ok-conversion.conversion.theorem conversion in
@@ -82,9 +90,9 @@ from_truth-requires-clause-logic c =
 pub converted_known-requires : goal.converted_known-requires
 converted_known-requires c =
     let theory = c.args.recorder.now.theory in
-    let function = c.args.parts.predicate.now in
-    let binder = c.args.parts.binder.now in
-    let body = c.args.parts.body.now in
+    let function = c.args.function.now in
+    let binder = c.args.binder.now in
+    let body = c.requires.instance.body in
     let witness = c.args.witness.now in
     let premise = c.args.premise.now.theorem in
     let instance = image premise.conclusion in
@@ -105,9 +113,9 @@ converted_known-requires c =
 pub trans_known-requires-clause-fits : goal.trans_known-requires-clause-fits
 trans_known-requires-clause-fits c =
     let theory = c.args.recorder.now.theory in
-    let function = c.args.parts.predicate.now in
-    let binder = c.args.parts.binder.now in
-    let body = c.args.parts.body.now in
+    let function = c.args.function.now in
+    let binder = c.args.binder.now in
+    let body = c.requires.instance.body in
     let witness = c.args.witness.now in
     let premise = c.args.premise.now.theorem in
     let instance = image premise.conclusion in
@@ -122,9 +130,9 @@ trans_known-requires-clause-fits c =
 pub from_truth-requires-clause-known : goal.from_truth-requires-clause-known
 from_truth-requires-clause-known c =
     let theory = c.args.recorder.now.theory in
-    let function = c.args.parts.predicate.now in
-    let binder = c.args.parts.binder.now in
-    let body = c.args.parts.body.now in
+    let function = c.args.function.now in
+    let binder = c.args.binder.now in
+    let body = c.requires.instance.body in
     let witness = c.args.witness.now in
     let premise = c.args.premise.now.theorem in
     let instance = image premise.conclusion in
@@ -139,9 +147,9 @@ from_truth-requires-clause-known c =
 pub from_truth-requires-clause-fits : goal.from_truth-requires-clause-fits
 from_truth-requires-clause-fits c =
     let theory = c.args.recorder.now.theory in
-    let function = c.args.parts.predicate.now in
-    let binder = c.args.parts.binder.now in
-    let body = c.args.parts.body.now in
+    let function = c.args.function.now in
+    let binder = c.args.binder.now in
+    let body = c.requires.instance.body in
     let witness = c.args.witness.now in
     let premise = c.args.premise.now.theorem in
     let instance = image premise.conclusion in
@@ -159,14 +167,16 @@ from_truth-requires-clause-fits c =
     equal.concludes ∙ ap (λ (t : Nameless). nameless_equation bool_type t truth) (sym redex_is)
 
 pub returns-clause-derives : goal.returns-clause-derives
-returns-clause-derives c formula at =
+returns-clause-derives c given =
     let theory = c.args.recorder.now.theory in
-    let function = c.args.parts.predicate.now in
-    let binder = c.args.parts.binder.now in
-    let body = c.args.parts.body.now in
+    let function = c.args.function.now in
+    let binder = c.args.binder.now in
+    let body = given.body in
     let witness = c.args.witness.now in
     let premise = c.args.premise.now.theorem in
     let instance = image premise.conclusion in
+    let formula = given.formula in
+    let at = given.witnessed in
     let conversion = c.in_ok-conversion.ensures.derives at.parts.name at.parts.ty bool_type body at.parts.function_is at.parts.binder_is
     at.parts.body_typed at.witness_typed (redex_passes theory formula function binder body witness instance at) in
     let conversion_shown = conversion-at theory formula function binder body witness instance at c.in_ok-conversion.conversion.theorem conversion in
