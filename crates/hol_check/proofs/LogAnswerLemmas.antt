@@ -1,9 +1,11 @@
 -- Lemmas on a log that is judged line by line.
-use Rattle.std.proofs.Common.{◌≡◌, ◌≤◌, ℕ, ◌+◌, List, [], ◌∷◌, ◌++◌, Option, Some, None, Result, Ok, Err, IfOk, Bool, true, false, length, refl, sym, ap, ◌∙◌, subst, append_assoc}
-use Rattle.std.specs.Prelude.{⊤, IsErrOf, MatchBool}
+use Rattle.std.proofs.Common.{◌≡◌, ◌≤◌, ◌<◌, ℕ, ◌+◌, List, [], ◌∷◌, ◌++◌, Option, Some, None, Result, Ok, Err, IfOk, Bool, true, false, length, refl, sym, ap, ◌∙◌, subst, append_assoc, rules}
+use Rattle.std.specs.Prelude.{⊤, IsErrOf, IsErrAnd, IfErr, IfSome, MatchBool, Contains}
 use Rattle.std.proofs.lemmas.List.{length-append}
 use Rattle.std.specs.Io.KnownBytes.{Consumes}
 use Rattle.std.proofs.KnownBytes.{Consumes-nil}
+use Rattle.hol_model.specs.declared.fault.Fault.{Fault}
+use Rattle.hol_model.specs.declared.fault.Fault.TheVariants.{Memory, ReadFault, TooLong, LogFault}
 use Rattle.hol_model.specs.declared.fault.Cause.{Cause}
 use Rattle.hol_model.specs.declared.fault.Cause.TheVariants.{Header, Cut}
 use Rattle.hol_model.specs.Logs.LogLine.{LogVersion}
@@ -14,8 +16,8 @@ use Rattle.hol_logtext.specs.LineReading.{read_text}
 use Rattle.hol_logtext.specs.LogBytes.{log_text, last_part, with_line}
 use Rattle.hol_logtext.proofs.LogLemmas.{log_text_line, log_text_last}
 use Rattle.hol_model.specs.declared.limits.TheConstants.{TEXT_BYTES_LIMIT}
-use Rattle.hol_check.specs.Reading.{Unread, IsUnread, IsLine, StaysWithin, taken_within, read_whole}
-use Rattle.hol_check.specs.LogAnswers.{log_answer, IsTakenText, LeadsTo, IsRefusedAt, IsUnderway}
+use Rattle.hol_check.specs.Reading.{Unread, IsUnread, IsLine, StaysWithin, TellsFailure, TellsLength, taken_within, read_whole}
+use Rattle.hol_check.specs.LogAnswers.{log_answer, IsTakenText, LeadsTo, IsRefusedAt, IsUnderway, IsRefusedLog, TellsRefusal, TellsInput}
 
 -- the bytes handed out, with a line and what follows it
 with_rest : (handed line rest : List ℕ) → ((handed ++ line) ++ line_feed ∷ []) ++ rest ≡ handed ++ (line ++ line_feed ∷ rest)
@@ -102,6 +104,61 @@ begun (Err fault) input unread left line version first behind none header = tt
 -- the fault of a refused call
 pub fault_is : {A E : Type 0} (fault other : E) → IsErrOf {T = A} {E = E} (Err fault) other → fault ≡ other
 fault_is fault other same = cc
+
+-- what `?` returns on an error
+pub passed_on : {T E : Type 0} → (result : Result T E) (fault : E) → IsErrAnd result (λ other. other ≡ fault) → result ≡ Err fault
+passed_on (Ok made) fault is = absurd is
+passed_on (Err other) fault is = ap (λ e. Err e) is
+
+-- what is told of the source and of the input, by a call that passes a fault on
+
+pub failure_passed : {A B : Type 0} → (result : Result B Fault) (fault : Fault) (has_failed : Bool) → IsErrAnd result (λ other. other ≡ fault)
+    → TellsFailure {T = A} (Err fault) has_failed → TellsFailure result has_failed
+failure_passed (Ok made) fault has_failed is failure = absurd is
+failure_passed (Err other) fault has_failed is failure = record {
+  read_fault = λ same. failure.read_fault (ap (λ e. Err e) (sym is ∙ fault_is other ReadFault same));
+  told = λ failed. ap (λ e. Err e) (is ∙ fault_is fault ReadFault (failure.told failed));
+  unfailed = tt;
+}
+
+pub input_passed : {A B : Type 0} → (result : Result B Fault) (fault : Fault) (input left : Option (List ℕ)) → IsErrAnd result (λ other. other ≡ fault)
+    → TellsInput {T = A} (Err fault) input left → TellsInput result input left
+input_passed (Ok made) fault input left is told = absurd is
+input_passed (Err other) fault input left is told = record {
+  refused = subst (TellsRefusal input) (sym is) told.refused;
+  too_long = λ same. told.too_long (ap (λ e. Err e) (sym is ∙ fault_is other TooLong same));
+  memory = λ same. told.memory (ap (λ e. Err e) (sym is ∙ fault_is other Memory same));
+}
+
+pub memory_unfailed : {T : Type 0} → (result : Result T Fault) (has_failed : Bool) → IfErr result (λ fault. fault ≡ Memory) → has_failed ≡ false → TellsFailure result has_failed
+memory_unfailed (Ok made) has_failed is unfailed = record { read_fault = λ same. absurd (cc); told = λ failed. absurd (cc); unfailed = unfailed }
+memory_unfailed (Err fault) has_failed is unfailed = record { read_fault = λ same. absurd (cc); told = λ failed. absurd (cc); unfailed = tt }
+
+-- what is told of the input, fault by fault
+
+pub refusal_told : {T : Type 0} → (input left : Option (List ℕ)) (line : ℕ) (cause : Cause) → IsRefusedLog input line cause → TellsInput {T = T} (Err (LogFault line cause)) input left
+refusal_told input left line cause refused = record { refused = refused; too_long = λ same. absurd (cc); memory = λ same. absurd (cc) }
+
+no_line_named : (fault : Fault) (input : Option (List ℕ)) → Contains (ReadFault ∷ TooLong ∷ Memory ∷ []) fault → TellsRefusal input fault
+no_line_named fault input is = search rules
+
+pub fault_told : {T : Type 0} → (fault : Fault) (input left : Option (List ℕ)) → TellsRefusal input fault → (fault ≡ TooLong → IfSome input (λ told. TEXT_BYTES_LIMIT < length told))
+    → (fault ≡ Memory → StaysWithin input left) → TellsInput {T = T} (Err fault) input left
+fault_told fault input left refused too_long memory = record {
+  refused = refused;
+  too_long = λ same. too_long (fault_is fault TooLong same);
+  memory = λ same. memory (fault_is fault Memory same);
+}
+
+pub memory_told : {T : Type 0} → (result : Result T Fault) (input left : Option (List ℕ)) → IfErr result (λ fault. fault ≡ Memory) → StaysWithin input left → TellsInput result input left
+memory_told (Ok made) input left is within = record { refused = tt; too_long = λ same. absurd (cc); memory = λ same. within }
+memory_told (Err fault) input left is within = record { refused = rw is tt; too_long = λ same. absurd (cc); memory = λ same. within }
+
+-- of the next line, whose reading was refused
+pub line_told : {A B : Type 0} → (fault : Fault) (input left : Option (List ℕ)) → Contains (ReadFault ∷ TooLong ∷ Memory ∷ []) fault → TellsLength {T = A} (Err fault) input
+    → (IsErrOf {T = A} (Err fault) Memory → StaysWithin input left) → TellsInput {T = B} (Err fault) input left
+line_told fault input left is too_long memory =
+    fault_told fault input left (no_line_named fault input is) (λ same. too_long (ap (λ e. Err e) same)) (λ same. memory (ap (λ e. Err e) same))
 
 -- before anything is read
 pub unread_at_first : (input : Option (List ℕ)) (unread : Unread) → unread.pending ≡ [] → unread.given ≡ 0 → IsUnread input [] unread input

@@ -1,5 +1,7 @@
 -- An accepted log stays accepted under the header of the second version.
-use Rattle.std.proofs.Common.{◌≡◌, ℕ, ◌+◌, List, [], ◌∷◌, ◌++◌, Option, Some, None, Ok, Bool, true, false, if◌then◌else◌, refl, sym, ap, ◌∙◌, subst, drop, length, ◌≤◌}
+use Rattle.std.proofs.Common.{◌≡◌, ℕ, ◌+◌, List, [], ◌∷◌, ◌++◌, Option, Some, None, Ok, Err, Bool, true, false, if◌then◌else◌, refl, sym, ap, ◌∙◌, subst, drop, length, ◌≤◌}
+use Rattle.hol_model.specs.declared.fault.Fault.{Fault}
+use Rattle.hol_model.specs.declared.fault.Fault.TheVariants.{Memory, LogFault}
 use Rattle.hol_model.specs.declared.fault.Cause.{Cause}
 use Rattle.hol_model.specs.declared.fault.Cause.TheVariants.{Shape}
 use Rattle.hol_model.specs.Logs.LogLine.{LogVersion, LogRule, LogLine}
@@ -14,11 +16,13 @@ use Rattle.hol_model.specs.Logs.LogFaults.{first_cause, is_first_version}
 use Rattle.hol_model.specs.Logs.LogText.{ReadLine, LogOutcome, from_line, at_last, at_end, unless_refused, log_outcome}
 use Rattle.hol_logtext.specs.LineText.{line_text, line_bytes}
 use Rattle.hol_logtext.specs.LogBytes.{log_text}
-use Rattle.hol_check.specs.LogAnswers.{log_answer, answer_from}
+use Rattle.hol_check.specs.Reading.{IsRead, read_whole}
+use Rattle.hol_check.specs.LogAnswers.{log_answer, answer_from, TellsRefusal, TellsInput}
 use Rattle.hol_model.specs.declared.limits.TheConstants.{TEXT_BYTES_LIMIT}
 use Rattle.hol_model.specs.Texts.KnownText.{Tells}
 use Rattle.hol_check.specs.Checking.{HasClaims}
-use Rattle.hol_check.specs.Migration.{in_second, IsMigrated, IsMigration, MigrationKeepsClaims}
+use Rattle.hol_check.specs.Migration.{in_second, IsMigrated, IsMigration, MigrationKeepsClaims, IsTextRefusal}
+use Rattle.hol_check.proofs.LogAnswerLemmas.{refusal_told, memory_told}
 use Rattle.hol_logtext.proofs.LogLemmas.{log_text_line}
 
 -- a test that fails does not change what is the first cause
@@ -174,3 +178,11 @@ is_migration input text new claims keeps told within checked migrated = record {
     hold = checked.hold;
   };
 }
+
+-- a text that is refused was the input
+pub text_told : {T : Type 0} → (fault : Fault) (input left : Option (List ℕ)) (text : List ℕ) → IsRead input text → TellsRefusal (Some text) fault → IsTextRefusal fault
+    → TellsInput {T = T} (Err fault) input left
+text_told Memory input left text read refused is = memory_told (Err Memory) input left refl (read_whole read)
+text_told (LogFault line cause) input left text read refused is =
+    refusal_told input left line cause (record { text = text; read = read; refused = ap log_answer refused.read.whole ∙ refused.refused })
+text_told fault input left text read refused is = absurd is

@@ -1,5 +1,5 @@
 -- How a whole log is judged line by line.
-use Rattle.std.specs.Prelude.{◌≡◌, ℕ, List, ◌++◌, Option, Some, None, Result, Ok, Err}
+use Rattle.std.specs.Prelude.{◌≡◌, ℕ, List, ◌++◌, Option, Some, None, Result, Ok, Err, IfErr, IsErrOf}
 use Rattle.hol_model.specs.declared.fault.Fault.{Fault}
 use Rattle.hol_model.specs.declared.fault.Fault.TheVariants.{Memory, ReadFault, TooLong, LogFault}
 use Rattle.hol_model.specs.declared.fault.Cause.{Cause}
@@ -8,7 +8,7 @@ use Rattle.hol_model.specs.Logs.LogState.{LogState}
 use Rattle.hol_model.specs.Logs.LogText.{ReadLine, LogOutcome, from_line, at_last, log_outcome}
 use Rattle.hol_logtext.specs.LogBytes.{log_text, last_part}
 use Rattle.hol_check_lines.specs.Taken.{IsTaken}
-use Rattle.hol_check.specs.Reading.{Unread, IsUnread, IsRead}
+use Rattle.hol_check.specs.Reading.{Unread, IsUnread, IsRead, StaysWithin, TellsLength}
 
 -- the answer of the bytes of a whole log
 abbrev pub log_answer : List ℕ → LogOutcome
@@ -59,6 +59,13 @@ pub record IsRefusedLog (input : Option (List ℕ)) (line : ℕ) (cause : Cause)
 abbrev pub TellsRefusal : Option (List ℕ) → Fault → Type 0
 TellsRefusal input (LogFault line cause) = IsRefusedLog input line cause
 TellsRefusal input _ = Unit {0}
+
+-- What a refusal tells of the input: LogFault the line and the cause, TooLong that it is longer than the limit on texts, and Memory that no
+-- more bytes than a text may have were taken of it.
+pub record TellsInput {T : Type 0} (result : Result T Fault) (input left : Option (List ℕ)) : Type 0 where
+  pub refused : IfErr result (TellsRefusal input)
+  pub too_long : TellsLength result input
+  pub memory : IsErrOf result Memory → StaysWithin input left
 
 -- the refusals of a log that is read
 abbrev pub IsRefusal : Fault → Type 0

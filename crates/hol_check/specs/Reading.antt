@@ -1,7 +1,9 @@
 -- What is left of a log's text while it is read.
-use Rattle.std.specs.Prelude.{◌≡◌, ◌≤◌, ◌+◌, ℕ, List, [], ◌∷◌, ◌++◌, Bool, true, false, take, drop, length, Option, None, Some}
+use Rattle.std.specs.Prelude.{◌≡◌, ◌≤◌, ◌<◌, ◌+◌, ℕ, List, [], ◌∷◌, ◌++◌, Bool, true, false, take, drop, length, Option, None, Some, Result, OnOk, IfSome, IsErrOf}
 use Rattle.std.specs.Io.KnownBytes.{Consumes}
 use Rattle.hol_model.specs.Texts.KnownText.{Tells}
+use Rattle.hol_model.specs.declared.fault.Fault.{Fault}
+use Rattle.hol_model.specs.declared.fault.Fault.TheVariants.{ReadFault, TooLong}
 use Rattle.hol_model.specs.declared.limits.TheConstants.{TEXT_BYTES_LIMIT}
 use Rattle.hol_device_io.specs.Bytes.{TakesWithin}
 use Rattle.hol_logtext.specs.Fields.{line_feed}
@@ -55,3 +57,13 @@ pub record IsSkipped (input : Option (List ℕ)) (handed : List ℕ) (unread : U
 pub data StaysWithin (input left : Option (List ℕ)) : Type 0 where
   taken_within : TakesWithin input left TEXT_BYTES_LIMIT → StaysWithin input left
   read_whole : {text : List ℕ} → IsRead input text → StaysWithin input left
+
+-- ReadFault is answered where the source has failed, and there alone
+pub record TellsFailure {T : Type 0} (result : Result T Fault) (has_failed : Bool) : Type 0 where
+  pub read_fault : IsErrOf result ReadFault → has_failed ≡ true
+  pub told : has_failed ≡ true → IsErrOf result ReadFault
+  pub unfailed : OnOk result (has_failed ≡ false)
+
+-- TooLong is answered for an input that is longer than the limit on texts
+abbrev pub TellsLength : {T : Type 0} → Result T Fault → Option (List ℕ) → Type 0
+TellsLength result input = IsErrOf result TooLong → IfSome input (λ told. TEXT_BYTES_LIMIT < length told)

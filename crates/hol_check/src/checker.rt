@@ -1,17 +1,31 @@
 // The check of a whole log.
-ghost use Rattle.std.specs.Prelude.{◌≡◌, ◌<◌, true, false, length, IfOk, OnOk, IfErr, IfSome, IsErrOf};
-ghost use Rattle.hol_model.specs.declared.fault.Fault.TheVariants.{Memory, ReadFault, TooLong};
-ghost use Rattle.hol_check.specs.Reading.{StaysWithin};
-ghost use Rattle.hol_check.specs.LogAnswers.{TellsRefusal, IsRefusal};
+ghost use Rattle.std.specs.Prelude.{◌≡◌, false, IfOk, IfErr};
+ghost use Rattle.hol_check.specs.Entries.{entries_in};
+ghost use Rattle.hol_check.specs.Reading.{TellsFailure};
+ghost use Rattle.hol_check.specs.LogAnswers.{TellsInput, IsRefusal};
 ghost use Rattle.hol_check.specs.Checking.{HasClaims, HasEntries};
 
 use crate::claim::{Claim, claims_of};
 use crate::entry::{LogEntry, entries_of};
 use crate::log_reader::read_log;
-use hol_model::{Fault, Source, TEXT_BYTES_LIMIT, accepted_logs_are_sound};
+use hol_check_lines::log::Log;
+use hol_model::{Fault, Source, accepted_logs_are_sound};
 use hol_sound::accepted_claims_hold;
 use std::alloc::Global;
 use std::rc::Rc;
+
+// The log that a source gives, where it is accepted, with the laws on its entries and claims.
+fn read_accepted<R: Source>(alloc: Global, reader: &mut R) -> Result<Rc<Log>, Fault>
+    requires unfailed { R.has_failed reader.old ≡ false }
+    ensures listed { IfOk result (λ log. HasEntries (R.remaining reader.old) log.value.claims (entries_in log.value.theory)) }
+    ensures refused { TellsInput result (R.remaining reader.old) (R.remaining reader.new) }
+    ensures failure { TellsFailure result (R.has_failed reader.new) }
+    ensures refusals { IfErr result IsRefusal }
+{
+    accepted_logs_are_sound();
+    accepted_claims_hold();
+    Ok(Rc::new(alloc, read_log(alloc, reader)?)?)
+}
 
 /// The claims of the log that a source gives, in the order of their lines. Each of them is derivable from the
 /// definitions and declarations of the log, and holds in every finite standard model of them, whatever the bytes are.
@@ -21,17 +35,11 @@ use std::rc::Rc;
 pub fn check<R: Source>(alloc: Global, reader: &mut R) -> Result<Vec<Claim>, Fault>
     requires unfailed { R.has_failed reader.old ≡ false }
     ensures claims { IfOk result (λ claims. HasClaims (R.remaining reader.old) claims.items) }
-    ensures refused { IfErr result (TellsRefusal (R.remaining reader.old)) }
-    ensures read_fault { IsErrOf result ReadFault → R.has_failed reader.new ≡ true }
-    ensures told { R.has_failed reader.new ≡ true → IsErrOf result ReadFault }
-    ensures too_long { IsErrOf result TooLong → IfSome (R.remaining reader.old) (λ told. TEXT_BYTES_LIMIT < length told) }
-    ensures unfailed { OnOk result (R.has_failed reader.new ≡ false) }
-    ensures memory { IsErrOf result Memory → StaysWithin (R.remaining reader.old) (R.remaining reader.new) }
+    ensures refused { TellsInput result (R.remaining reader.old) (R.remaining reader.new) }
+    ensures failure { TellsFailure result (R.has_failed reader.new) }
     ensures refusals { IfErr result IsRefusal }
 {
-    accepted_logs_are_sound();
-    accepted_claims_hold();
-    let log = Rc::new(alloc, read_log(alloc, reader)?)?;
+    let log = read_accepted(alloc, reader)?;
     claims_of(alloc, log)
 }
 
@@ -47,17 +55,11 @@ pub struct CheckedLog {
 pub fn check_log<R: Source>(alloc: Global, reader: &mut R) -> Result<CheckedLog, Fault>
     requires unfailed { R.has_failed reader.old ≡ false }
     ensures listed { IfOk result (λ log. HasEntries (R.remaining reader.old) log.claims.items log.entries.items) }
-    ensures refused { IfErr result (TellsRefusal (R.remaining reader.old)) }
-    ensures read_fault { IsErrOf result ReadFault → R.has_failed reader.new ≡ true }
-    ensures told { R.has_failed reader.new ≡ true → IsErrOf result ReadFault }
-    ensures too_long { IsErrOf result TooLong → IfSome (R.remaining reader.old) (λ told. TEXT_BYTES_LIMIT < length told) }
-    ensures unfailed { OnOk result (R.has_failed reader.new ≡ false) }
-    ensures memory { IsErrOf result Memory → StaysWithin (R.remaining reader.old) (R.remaining reader.new) }
+    ensures refused { TellsInput result (R.remaining reader.old) (R.remaining reader.new) }
+    ensures failure { TellsFailure result (R.has_failed reader.new) }
     ensures refusals { IfErr result IsRefusal }
 {
-    accepted_logs_are_sound();
-    accepted_claims_hold();
-    let log = Rc::new(alloc, read_log(alloc, reader)?)?;
+    let log = read_accepted(alloc, reader)?;
     let entries = entries_of(alloc, log.clone()?)?;
     let claims = claims_of(alloc, log)?;
     Ok(CheckedLog { claims, entries })

@@ -1,12 +1,12 @@
 // A whole log judged line by line.
-ghost use Rattle.std.specs.Prelude.{◌≡◌, ◌≤◌, ◌<◌, ◌+◌, ⊤, ℕ, List, [], Option, true, false, length, IfOk, OnOk, IfErr, IfSome, IsErrOf, MatchBool};
+ghost use Rattle.std.specs.Prelude.{◌≡◌, ◌≤◌, ◌<◌, ◌+◌, ⊤, ℕ, List, [], Option, true, false, length, IfOk, OnOk, IfErr, IfSome, MatchBool};
 ghost use Rattle.hol_model.specs.declared.fault.Fault.TheVariants.{Memory, ReadFault, TooLong};
 ghost use Rattle.hol_model.specs.Logs.LogText.{dest_header};
 ghost use Rattle.std.specs.Option.{option_map};
 ghost use Rattle.hol_logtext.specs.Lines.{version_of};
 ghost use Rattle.hol_logtext.specs.LineReading.{read_text};
-ghost use Rattle.hol_check.specs.Reading.{IsUnread, StaysWithin};
-ghost use Rattle.hol_check.specs.LogAnswers.{IsTakenText, IsEnded, IsRefusedAt, IsUnderway, IsAcceptedLog, TellsRefusal, IsRefusal};
+ghost use Rattle.hol_check.specs.Reading.{IsUnread, TellsFailure};
+ghost use Rattle.hol_check.specs.LogAnswers.{IsTakenText, IsEnded, IsRefusedAt, IsUnderway, IsAcceptedLog, TellsRefusal, TellsInput, IsRefusal};
 
 use crate::reading::Reading;
 use hol_check_lines::log::Log;
@@ -81,16 +81,10 @@ fn read_next<R: Source>(
     requires unfailed { R.has_failed reader.old ≡ false }
     ensures judged { (input : Option (List ℕ)) → IsUnderway input reading.old (R.remaining reader.old) number log.old
         → IfOk result (λ more. MatchBool more (IsUnderway input reading.new (R.remaining reader.new) (number + 1) log.new) (IsAcceptedLog input log.new)) }
-    ensures refused { (input : Option (List ℕ)) → IsUnderway input reading.old (R.remaining reader.old) number log.old → IfErr result (TellsRefusal input) }
+    ensures refused { (input : Option (List ℕ)) → IsUnderway input reading.old (R.remaining reader.old) number log.old → TellsInput result input (R.remaining reader.new) }
     ensures given { IfOk result (λ more. MatchBool more (reading.old.given < reading.new.given) ⊤) }
     ensures within_limit { IfOk result (λ more. MatchBool more (reading.new.given ≤ TEXT_BYTES_LIMIT) ⊤) }
-    ensures too_long { (input : Option (List ℕ)) → IsUnderway input reading.old (R.remaining reader.old) number log.old
-        → IsErrOf result TooLong → IfSome input (λ told. TEXT_BYTES_LIMIT < length told) }
-    ensures failed { IsErrOf result ReadFault → R.has_failed reader.new ≡ true }
-    ensures told { R.has_failed reader.new ≡ true → IsErrOf result ReadFault }
-    ensures unfailed { OnOk result (R.has_failed reader.new ≡ false) }
-    ensures memory { (input : Option (List ℕ)) → IsUnderway input reading.old (R.remaining reader.old) number log.old
-        → IsErrOf result Memory → StaysWithin input (R.remaining reader.new) }
+    ensures failure { TellsFailure result (R.has_failed reader.new) }
     ensures refusals { IfErr result IsRefusal }
 {
     let is_line = reading.next_line(reader, line)?;
@@ -119,14 +113,8 @@ fn read_lines<R: Source>(
 ) -> Result<(), Fault>
     requires unfailed { R.has_failed reader.old ≡ false }
     ensures accepted { (input : Option (List ℕ)) → IsUnderway input reading.old (R.remaining reader.old) 2 log.old → OnOk result (IsAcceptedLog input log.new) }
-    ensures refused { (input : Option (List ℕ)) → IsUnderway input reading.old (R.remaining reader.old) 2 log.old → IfErr result (TellsRefusal input) }
-    ensures too_long { (input : Option (List ℕ)) → IsUnderway input reading.old (R.remaining reader.old) 2 log.old
-        → IsErrOf result TooLong → IfSome input (λ told. TEXT_BYTES_LIMIT < length told) }
-    ensures failed { IsErrOf result ReadFault → R.has_failed reader.new ≡ true }
-    ensures told { R.has_failed reader.new ≡ true → IsErrOf result ReadFault }
-    ensures unfailed { OnOk result (R.has_failed reader.new ≡ false) }
-    ensures memory { (input : Option (List ℕ)) → IsUnderway input reading.old (R.remaining reader.old) 2 log.old
-        → IsErrOf result Memory → StaysWithin input (R.remaining reader.new) }
+    ensures refused { (input : Option (List ℕ)) → IsUnderway input reading.old (R.remaining reader.old) 2 log.old → TellsInput result input (R.remaining reader.new) }
+    ensures failure { TellsFailure result (R.has_failed reader.new) }
     ensures refusals { IfErr result IsRefusal }
 {
     let mut line = Vec::new(alloc);
@@ -145,14 +133,8 @@ fn begin<R: Source>(alloc: Global, reader: &mut R, reading: &mut Reading) -> Res
     requires unfailed { R.has_failed reader.old ≡ false }
     ensures begun { (input : Option (List ℕ)) → IsUnread input [] reading.old (R.remaining reader.old)
         → IfOk result (λ log. IsUnderway input reading.new (R.remaining reader.new) 2 log) }
-    ensures refused { (input : Option (List ℕ)) → IsUnread input [] reading.old (R.remaining reader.old) → IfErr result (TellsRefusal input) }
-    ensures too_long { (input : Option (List ℕ)) → IsUnread input [] reading.old (R.remaining reader.old)
-        → IsErrOf result TooLong → IfSome input (λ told. TEXT_BYTES_LIMIT < length told) }
-    ensures failed { IsErrOf result ReadFault → R.has_failed reader.new ≡ true }
-    ensures told { R.has_failed reader.new ≡ true → IsErrOf result ReadFault }
-    ensures unfailed { OnOk result (R.has_failed reader.new ≡ false) }
-    ensures memory { (input : Option (List ℕ)) → IsUnread input [] reading.old (R.remaining reader.old)
-        → IsErrOf result Memory → StaysWithin input (R.remaining reader.new) }
+    ensures refused { (input : Option (List ℕ)) → IsUnread input [] reading.old (R.remaining reader.old) → TellsInput result input (R.remaining reader.new) }
+    ensures failure { TellsFailure result (R.has_failed reader.new) }
     ensures refusals { IfErr result IsRefusal }
 {
     let mut line = Vec::new(alloc);
@@ -186,12 +168,8 @@ fn begin<R: Source>(alloc: Global, reader: &mut R, reading: &mut Reading) -> Res
 pub(crate) fn read_log<R: Source>(alloc: Global, reader: &mut R) -> Result<Log, Fault>
     requires unfailed { R.has_failed reader.old ≡ false }
     ensures accepted { IfOk result (IsAcceptedLog (R.remaining reader.old)) }
-    ensures refused { IfErr result (TellsRefusal (R.remaining reader.old)) }
-    ensures too_long { IsErrOf result TooLong → IfSome (R.remaining reader.old) (λ told. TEXT_BYTES_LIMIT < length told) }
-    ensures failed { IsErrOf result ReadFault → R.has_failed reader.new ≡ true }
-    ensures told { R.has_failed reader.new ≡ true → IsErrOf result ReadFault }
-    ensures unfailed { OnOk result (R.has_failed reader.new ≡ false) }
-    ensures memory { IsErrOf result Memory → StaysWithin (R.remaining reader.old) (R.remaining reader.new) }
+    ensures refused { TellsInput result (R.remaining reader.old) (R.remaining reader.new) }
+    ensures failure { TellsFailure result (R.has_failed reader.new) }
     ensures refusals { IfErr result IsRefusal }
 {
     let mut reading = Reading::new();

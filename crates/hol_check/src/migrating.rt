@@ -1,8 +1,8 @@
 // Logs under the header of the second version.
-ghost use Rattle.std.specs.Prelude.{◌≡◌, ◌≤◌, ◌<◌, true, false, Some, length, IfOk, OnOk, IfErr, IfSome, IsErrOf};
-ghost use Rattle.hol_model.specs.declared.fault.Fault.TheVariants.{Memory, ReadFault, WriteFault, TooLong};
-ghost use Rattle.hol_check.specs.Reading.{StaysWithin};
-ghost use Rattle.hol_check.specs.LogAnswers.{TellsRefusal, IsRefusal};
+ghost use Rattle.std.specs.Prelude.{◌≡◌, ◌≤◌, true, false, Some, length, IfOk, OnOk, IfErr, IsErrOf};
+ghost use Rattle.hol_model.specs.declared.fault.Fault.TheVariants.{WriteFault};
+ghost use Rattle.hol_check.specs.Reading.{TellsFailure};
+ghost use Rattle.hol_check.specs.LogAnswers.{TellsRefusal, TellsInput, IsRefusal};
 ghost use Rattle.hol_check.specs.Checking.{HasClaims};
 ghost use Rattle.hol_check.specs.Migration.{IsHeaded, IsMigrated, IsMigration, Migrates, MigratesFront, IsTextRefusal, IsMigrationRefusal, UnlessWriteFault};
 
@@ -41,12 +41,8 @@ fn set_second_version(text: &mut Vec<u8>)
 fn migration<R: Source>(alloc: Global, reader: &mut R) -> Result<(Vec<Claim>, Vec<u8>), Fault>
     requires unfailed { R.has_failed reader.old ≡ false }
     ensures migration { IfOk result (λ answer. IsMigration (R.remaining reader.old) answer.0.items answer.1.items) }
-    ensures refused { IfErr result (TellsRefusal (R.remaining reader.old)) }
-    ensures read_fault { IsErrOf result ReadFault → R.has_failed reader.new ≡ true }
-    ensures told { R.has_failed reader.new ≡ true → IsErrOf result ReadFault }
-    ensures too_long { IsErrOf result TooLong → IfSome (R.remaining reader.old) (λ told. TEXT_BYTES_LIMIT < length told) }
-    ensures unfailed { OnOk result (R.has_failed reader.new ≡ false) }
-    ensures memory { IsErrOf result Memory → StaysWithin (R.remaining reader.old) (R.remaining reader.new) }
+    ensures refused { TellsInput result (R.remaining reader.old) (R.remaining reader.new) }
+    ensures failure { TellsFailure result (R.has_failed reader.new) }
     ensures refusals { IfErr result IsRefusal }
 {
     reading_is_exact();
@@ -70,17 +66,13 @@ pub fn migrate<R: Source, W: Sink>(
     requires reader_unfailed { R.has_failed reader.old ≡ false }
     requires writer_unfailed { W.has_failed writer.old ≡ false }
     ensures migrated { IfOk result (λ claims. Migrates (R.remaining reader.old) claims.items (W.contents writer.old) (W.contents writer.new)) }
-    ensures refused { IfErr result (TellsRefusal (R.remaining reader.old)) }
+    ensures refused { TellsInput result (R.remaining reader.old) (R.remaining reader.new) }
+    ensures failure { TellsFailure result (R.has_failed reader.new) }
     ensures unwritten { IfErr result (λ fault. UnlessWriteFault fault (writer.new ≡ writer.old)) }
     ensures front { IsErrOf result WriteFault → MigratesFront (R.remaining reader.old) (W.contents writer.old) (W.contents writer.new) }
-    ensures read_fault { IsErrOf result ReadFault → R.has_failed reader.new ≡ true }
-    ensures told { R.has_failed reader.new ≡ true → IsErrOf result ReadFault }
-    ensures too_long { IsErrOf result TooLong → IfSome (R.remaining reader.old) (λ told. TEXT_BYTES_LIMIT < length told) }
     ensures write_fault { IsErrOf result WriteFault → W.has_failed writer.new ≡ true }
     ensures write_told { W.has_failed writer.new ≡ true → IsErrOf result WriteFault }
-    ensures reader_unfailed { OnOk result (R.has_failed reader.new ≡ false) }
     ensures writer_unfailed { OnOk result (W.has_failed writer.new ≡ false) }
-    ensures memory { IsErrOf result Memory → StaysWithin (R.remaining reader.old) (R.remaining reader.new) }
     ensures refusals { IfErr result IsMigrationRefusal }
 {
     let (claims, text) = migration(alloc, reader)?;

@@ -1,9 +1,9 @@
 // The bytes of a log, read one after another.
-ghost use Rattle.std.specs.Prelude.{⊤, ◌≡◌, ◌≤◌, ◌<◌, ◌+◌, ◌++◌, ◌∷◌, ◌==◌, ℕ, List, [], Option, true, false, length, IfOk, OnOk, IfErr, IfSome, IsErrOf, MatchBool, Contains};
+ghost use Rattle.std.specs.Prelude.{⊤, ◌≡◌, ◌≤◌, ◌<◌, ◌+◌, ◌++◌, ◌∷◌, ◌==◌, ℕ, List, [], Option, false, length, IfOk, OnOk, IfErr, IfSome, IsErrOf, MatchBool, Contains};
 ghost use Rattle.hol_model.specs.declared.fault.Fault.TheVariants.{Memory, ReadFault, TooLong};
 ghost use Rattle.hol_logtext.specs.Fields.{line_feed};
 ghost use Rattle.hol_logtext.specs.Fields.{has_line_feed};
-ghost use Rattle.hol_check.specs.Reading.{IsUnread, IsRead, IsNext, IsLine, IsReadOn, StaysWithin};
+ghost use Rattle.hol_check.specs.Reading.{IsUnread, IsRead, IsNext, IsLine, IsReadOn, StaysWithin, TellsFailure, TellsLength};
 
 use hol_model::{Fault, Source, TEXT_BYTES_LIMIT};
 use std::marker::Model;
@@ -57,11 +57,8 @@ impl Reading {
             → IfOk result (λ more. MatchBool more (IsUnread input handed self.new (R.remaining reader.new)) (IsRead input handed)) }
         ensures some { IfOk result (λ more. MatchBool more (0 < length self.new.pending) ⊤) }
         ensures given { OnOk result (self.new.given ≡ self.old.given) }
-        ensures too_long { (input : Option (List ℕ)) (handed : List ℕ) → IsUnread input handed self.old (R.remaining reader.old)
-            → IsErrOf result TooLong → IfSome input (λ told. TEXT_BYTES_LIMIT < length told) }
-        ensures failed { IsErrOf result ReadFault → R.has_failed reader.new ≡ true }
-        ensures told { R.has_failed reader.new ≡ true → IsErrOf result ReadFault }
-        ensures unfailed { OnOk result (R.has_failed reader.new ≡ false) }
+        ensures too_long { (input : Option (List ℕ)) (handed : List ℕ) → IsUnread input handed self.old (R.remaining reader.old) → TellsLength result input }
+        ensures failure { TellsFailure result (R.has_failed reader.new) }
         ensures refusals { IfErr result (Contains (ReadFault ∷ TooLong ∷ [])) }
     {
         let Ok(count) = reader.pull(&mut self.bytes) else {
@@ -106,11 +103,8 @@ impl Reading {
             → IfOk result (IsNext input handed self.new (R.remaining reader.new)) }
         ensures given { IfOk result (λ found. IfSome found (λ byte. self.new.given ≡ self.old.given + 1)) }
         ensures room { IfOk result (λ found. IfSome found (λ byte. self.new.given + length self.new.pending ≤ TEXT_BYTES_LIMIT)) }
-        ensures too_long { (input : Option (List ℕ)) (handed : List ℕ) → IsUnread input handed self.old (R.remaining reader.old)
-            → IsErrOf result TooLong → IfSome input (λ told. TEXT_BYTES_LIMIT < length told) }
-        ensures failed { IsErrOf result ReadFault → R.has_failed reader.new ≡ true }
-        ensures told { R.has_failed reader.new ≡ true → IsErrOf result ReadFault }
-        ensures unfailed { OnOk result (R.has_failed reader.new ≡ false) }
+        ensures too_long { (input : Option (List ℕ)) (handed : List ℕ) → IsUnread input handed self.old (R.remaining reader.old) → TellsLength result input }
+        ensures failure { TellsFailure result (R.has_failed reader.new) }
         ensures refusals { IfErr result (Contains (ReadFault ∷ TooLong ∷ [])) }
     {
         if self.has_pending() {
@@ -136,11 +130,8 @@ impl Reading {
         ensures one { OnOk result (has_line_feed line.new.items ≡ false) }
         ensures given { IfOk result (λ fed. MatchBool fed (self.old.given < self.new.given) ⊤) }
         ensures room { IfOk result (λ fed. MatchBool fed (self.new.given + length self.new.pending ≤ TEXT_BYTES_LIMIT) ⊤) }
-        ensures too_long { (input : Option (List ℕ)) (handed : List ℕ) → IsUnread input handed self.old (R.remaining reader.old)
-            → IsErrOf result TooLong → IfSome input (λ told. TEXT_BYTES_LIMIT < length told) }
-        ensures failed { IsErrOf result ReadFault → R.has_failed reader.new ≡ true }
-        ensures told { R.has_failed reader.new ≡ true → IsErrOf result ReadFault }
-        ensures unfailed { OnOk result (R.has_failed reader.new ≡ false) }
+        ensures too_long { (input : Option (List ℕ)) (handed : List ℕ) → IsUnread input handed self.old (R.remaining reader.old) → TellsLength result input }
+        ensures failure { TellsFailure result (R.has_failed reader.new) }
         ensures memory { (input : Option (List ℕ)) (handed : List ℕ) → IsUnread input handed self.old (R.remaining reader.old)
             → IsErrOf result Memory → StaysWithin input (R.remaining reader.new) }
         ensures refusals { IfErr result (Contains (ReadFault ∷ TooLong ∷ Memory ∷ [])) }
@@ -160,11 +151,8 @@ impl Reading {
         requires unfailed { R.has_failed reader.old ≡ false }
         ensures read { (input : Option (List ℕ)) (handed : List ℕ) → IsUnread input handed self.old (R.remaining reader.old)
             → OnOk result (IsReadOn input handed) }
-        ensures too_long { (input : Option (List ℕ)) (handed : List ℕ) → IsUnread input handed self.old (R.remaining reader.old)
-            → IsErrOf result TooLong → IfSome input (λ told. TEXT_BYTES_LIMIT < length told) }
-        ensures failed { IsErrOf result ReadFault → R.has_failed reader.new ≡ true }
-        ensures told { R.has_failed reader.new ≡ true → IsErrOf result ReadFault }
-        ensures unfailed { OnOk result (R.has_failed reader.new ≡ false) }
+        ensures too_long { (input : Option (List ℕ)) (handed : List ℕ) → IsUnread input handed self.old (R.remaining reader.old) → TellsLength result input }
+        ensures failure { TellsFailure result (R.has_failed reader.new) }
         ensures refusals { IfErr result (Contains (ReadFault ∷ TooLong ∷ [])) }
     {
         while let Some(_byte) = self.next(reader)? {}

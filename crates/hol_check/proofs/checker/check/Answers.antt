@@ -1,27 +1,14 @@
-use Rattle.std.proofs.Common.{Err, ap, ◌∙◌}
-use Rattle.std.proofs.lemmas.Result.{err_from_is_err_and}
 use Rattle.std.proofs.lemmas.Result.{IfOk-weaker}
-use Rattle.hol_model.specs.declared.fault.Fault.TheVariants.{Memory}
-use Rattle.hol_model.specs.Logs.LogState.{LogState}
 use Rattle.hol_check.specs.Reading.{read_whole}
-use Rattle.hol_check.proofs.LogAnswerLemmas.{fault_is}
-use Rattle.hol_check.proofs.CheckingLemmas.{has_claims}
+use Rattle.hol_check.proofs.LogAnswerLemmas.{input_passed, memory_told}
+use Rattle.hol_check.proofs.CheckingLemmas.{claims_listed}
 use Rattle.hol_check.proofs.checker.check.Goals as goal
 
+pub returns-in_err-log-clause-refused : goal.returns-in_err-log-clause-refused
+returns-in_err-log-clause-refused g c = input_passed c.from_residual.result c.in_err-log.field-0.0 _ _ c.from_residual.ensures.1 c.in_err-log.ensures.refused
+
 pub returns-clause-claims : goal.returns-clause-claims
-returns-clause-claims g c =
-    IfOk-weaker c.claims_of.result _ _
-    (λ claims listed. has_claims (g.R.Source.remaining c.args.reader.now) c.in_ok-read_log.field-0 claims.items c.accepted_logs_are_sound.ensures c.accepted_claims_hold.ensures c.in_ok-read_log.ensures.accepted
-    (listed ∙ ap (λ (log : LogState). log.claims) c.in_ok-log.ensures.ok))
-    c.claims_of.ensures.claims
+returns-clause-claims g c = IfOk-weaker c.claims_of.result _ _ (λ claims listed. claims_listed _ _ _ _ c.in_ok-log.ensures.listed listed) c.claims_of.ensures.claims
 
-pub returns-in_err-log-clause-memory : goal.returns-in_err-log-clause-memory
-returns-in_err-log-clause-memory g c = λ wants. read_whole c.in_ok-read_log.ensures.accepted.read
-
-pub returns-in_err-read_log-clause-memory : goal.returns-in_err-read_log-clause-memory
-returns-in_err-read_log-clause-memory g c = λ wants.
-    let p = err_from_is_err_and c.from_residual.result c.from_residual.ensures.1 in
-    c.in_err-read_log.ensures.memory (ap Err (fault_is c.in_err-read_log.field-0.0 Memory (rw (p.1, p.2) at wants)))
-
-pub returns-clause-memory : goal.returns-clause-memory
-returns-clause-memory g c = λ wants. read_whole c.in_ok-read_log.ensures.accepted.read
+pub returns-clause-refused : goal.returns-clause-refused
+returns-clause-refused g c = memory_told c.claims_of.result _ _ c.claims_of.ensures.refused (read_whole c.in_ok-log.ensures.listed.has_claims.read)

@@ -1,8 +1,10 @@
-use Rattle.std.proofs.Common.{Err, ap}
-use Rattle.std.proofs.lemmas.Result.{err_from_is_err_and}
-use Rattle.hol_model.specs.declared.fault.Fault.TheVariants.{Memory, ReadFault, TooLong}
-use Rattle.hol_check.proofs.LogAnswerLemmas.{fault_is, unread_at_first}
+use Rattle.hol_check.proofs.LogAnswerLemmas.{unread_at_first, passed_on, failure_passed, input_passed}
 use Rattle.hol_check.proofs.log_reader.read_log.Goals as goal
+
+pub returns-in_err-log-clause-refused : goal.returns-in_err-log-clause-refused
+returns-in_err-log-clause-refused g c =
+    let first = unread_at_first (g.R.Source.remaining c.args.reader.now) c.new-reading.result c.new-reading.ensures.pending c.new-reading.ensures.given in
+    input_passed c.from_residual.result c.in_err-log.field-0.0 _ _ c.from_residual.ensures.1 (c.in_err-log.ensures.refused _ first)
 
 pub returns-clause-accepted : goal.returns-clause-accepted
 returns-clause-accepted g c =
@@ -12,33 +14,13 @@ returns-clause-accepted g c =
 pub returns-in_err-read_lines-clause-refused : goal.returns-in_err-read_lines-clause-refused
 returns-in_err-read_lines-clause-refused g c =
     let first = unread_at_first (g.R.Source.remaining c.args.reader.now) c.new-reading.result c.new-reading.ensures.pending c.new-reading.ensures.given in
-    let p = err_from_is_err_and c.from_residual-in_err-read_lines.result c.from_residual-in_err-read_lines.ensures.1 in
-    rw (p.1, p.2) (c.in_err-read_lines.ensures.refused _ (c.in_ok-log.ensures.begun _ first))
+    input_passed c.from_residual-in_err-read_lines.result c.in_err-read_lines.field-0.0 _ _ c.from_residual-in_err-read_lines.ensures.1
+    (c.in_err-read_lines.ensures.refused _ (c.in_ok-log.ensures.begun _ first))
 
-pub returns-in_err-read_lines-clause-too_long : goal.returns-in_err-read_lines-clause-too_long
-returns-in_err-read_lines-clause-too_long g c = λ wrong.
-    let first = unread_at_first (g.R.Source.remaining c.args.reader.now) c.new-reading.result c.new-reading.ensures.pending c.new-reading.ensures.given in
-    let p = err_from_is_err_and c.from_residual-in_err-read_lines.result c.from_residual-in_err-read_lines.ensures.1 in
-    c.in_err-read_lines.ensures.too_long _ (c.in_ok-log.ensures.begun _ first) (ap Err (fault_is c.in_err-read_lines.field-0.0 TooLong (rw (p.1, p.2) at wrong)))
-
-pub returns-in_err-read_lines-clause-told : goal.returns-in_err-read_lines-clause-told
-returns-in_err-read_lines-clause-told g c = λ failed.
-    let p = err_from_is_err_and c.from_residual-in_err-read_lines.result c.from_residual-in_err-read_lines.ensures.1 in
-    rw (p.1, p.2) (ap Err (fault_is c.in_err-read_lines.field-0.0 ReadFault (c.in_err-read_lines.ensures.told failed)))
-
-pub returns-in_err-log-clause-memory : goal.returns-in_err-log-clause-memory
-returns-in_err-log-clause-memory g c = λ wants.
-    let p = err_from_is_err_and c.from_residual.result c.from_residual.ensures.1 in
-    let first = unread_at_first (g.R.Source.remaining c.args.reader.now) c.new-reading.result c.new-reading.ensures.pending c.new-reading.ensures.given in
-    c.in_err-log.ensures.memory _ first (ap Err (fault_is c.in_err-log.field-0.0 Memory (rw (p.1, p.2) at wants)))
-
-pub returns-in_err-read_lines-clause-memory : goal.returns-in_err-read_lines-clause-memory
-returns-in_err-read_lines-clause-memory g c = λ wants.
-    let first = unread_at_first (g.R.Source.remaining c.args.reader.now) c.new-reading.result c.new-reading.ensures.pending c.new-reading.ensures.given in
-    let p = err_from_is_err_and c.from_residual-in_err-read_lines.result c.from_residual-in_err-read_lines.ensures.1 in
-    c.in_err-read_lines.ensures.memory _ (c.in_ok-log.ensures.begun _ first) (ap Err (fault_is c.in_err-read_lines.field-0.0 Memory (rw (p.1, p.2) at wants)))
+pub returns-in_err-read_lines-clause-failure : goal.returns-in_err-read_lines-clause-failure
+returns-in_err-read_lines-clause-failure g c =
+    failure_passed c.from_residual-in_err-read_lines.result c.in_err-read_lines.field-0.0 _ c.from_residual-in_err-read_lines.ensures.1 c.in_err-read_lines.ensures.failure
 
 pub returns-in_err-read_lines-clause-refusals : goal.returns-in_err-read_lines-clause-refusals
 returns-in_err-read_lines-clause-refusals g c =
-    let p = err_from_is_err_and c.from_residual-in_err-read_lines.result c.from_residual-in_err-read_lines.ensures.1 in
-    rw (p.1, p.2) c.in_err-read_lines.ensures.refusals
+    rw (passed_on c.from_residual-in_err-read_lines.result c.in_err-read_lines.field-0.0 c.from_residual-in_err-read_lines.ensures.1) c.in_err-read_lines.ensures.refusals
