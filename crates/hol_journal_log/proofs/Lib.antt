@@ -4,6 +4,7 @@ pub mod LogParts
 pub mod KeptTheory
 pub mod WrittenLemmas
 pub mod MarkingLemmas
+pub mod MentionLemmas
 pub mod WriterLemmas
 pub mod NamesLemmas
 pub mod LogEntries

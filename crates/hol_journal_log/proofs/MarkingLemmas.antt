@@ -13,7 +13,7 @@ use Rattle.hol_journal.specs.Steps.{Step, by_refl, by_trans, by_mk_comb, by_abs,
 use Rattle.hol_journal.specs.Steps.{by_eta, by_select, by_definition, JournalEntry, derived, declared_type, declared_constant, entries_of}
 use Rattle.hol_journal.specs.Journal.{added_by}
 use Rattle.hol_journal_log.specs.Needed.{names_in, introduced_by, IsNeeded, by_claim, by_citation, by_name, StandOnEarlier, MarksNeeded}
-use Rattle.hol_journal_log.specs.Marking.{IsMarkedAt, AreMarked, held_names, is_reached, cited_by, cited_at, CitesWithin, IsEntryMarked, Marks, Notes, is_noted, AreCitedFrom, names_of_marked, Introduces, IsSame, IsMentioned, IsMarkedFrom}
+use Rattle.hol_journal_log.specs.Marking.{IsMarkedAt, AreMarked, held_names, is_reached, cited_by, cited_at, CitesWithin, IsEntryMarked, Marks, Notes, is_noted, AreCitedFrom, names_of_marked, Introduces, IsSame, IsMentioned, AreMentioned, IsMarkedFrom}
 
 pub Marks-twice : (first second third : List Bool) (xs ys : List ℕ) → Marks first second xs → Marks second third ys → Marks first third (xs ++ ys)
 Marks-twice first second third xs ys early late = record {
@@ -59,7 +59,7 @@ within [] i x there = cc
 within (y ∷ xs) zero x there = omega arith
 within (y ∷ xs) (suc i) x there = let deeper = within xs i x there in omega arith
 
-same_value : {A : Type 0} {x y : A} → Some x ≡ Some y → x ≡ y
+pub same_value : {A : Type 0} {x y : A} → Some x ≡ Some y → x ≡ y
 same_value same = cc
 
 at_least : (place number : ℕ) → place ≤ number → (number ≡ place) ⊎ (place + 1 ≤ number)
@@ -97,7 +97,7 @@ cited_below entries place number (declared_type name) earlier there member = abs
 cited_below entries place number (declared_constant name ty) earlier there member = absurd member
 
 -- what the entry at a place cites, as the place tells
-cited_member : (entries : List JournalEntry) (place number user : ℕ) (entry : JournalEntry) (step : Step) (sequent : Sequent) → slice_get entries place ≡ Some entry → user ≡ place
+pub cited_member : (entries : List JournalEntry) (place number user : ℕ) (entry : JournalEntry) (step : Step) (sequent : Sequent) → slice_get entries place ≡ Some entry → user ≡ place
     → slice_get entries user ≡ Some (derived step sequent) → IsMember number (entries_of step) → IsMember number (cited_by entry)
 cited_member entries place number user entry step sequent there here using member =
     let same : entry ≡ derived step sequent = same_value (sym there ∙ ap (slice_get entries) (sym here) ∙ using) in
@@ -173,7 +173,7 @@ mark_there (first ∷ marks) (suc place) mark value inside is same = mark_there 
 
 -- the entries of noted names, one entry further back
 
-introduces_none_cited : (entry : JournalEntry) → Introduces entry → cited_by entry ≡ []
+pub introduces_none_cited : (entry : JournalEntry) → Introduces entry → cited_by entry ≡ []
 introduces_none_cited (derived (by_definition name term) sequent) introduces = refl
 introduces_none_cited (declared_type name) introduces = refl
 introduces_none_cited (declared_constant name ty) introduces = refl
@@ -183,7 +183,7 @@ either_reached : (at noted : Bool) → (not at && noted) ≡ false → (at ≡ t
 either_reached true noted is = inl refl
 either_reached false noted is = inr is
 
-both_reached : (at noted : Bool) → (not at && noted) ≡ true → noted ≡ true
+pub both_reached : (at noted : Bool) → (not at && noted) ≡ true → noted ≡ true
 both_reached true noted is = cc
 both_reached false noted is = is
 
@@ -283,6 +283,15 @@ module _ (entries : List JournalEntry) (claimed : List ℕ) (place : ℕ) (entry
           let introduces : Introduces entry = introduced_name names entry noted in
           marked_here new_marks new_names (reached_needed introduces noted) introduces (is.marked reaches) (is.noted reaches)
       go false passes = rw (is.kept_marks passes, is.kept_names passes) (passed passes)
+
+-- whether an entry is reached, by its mark and by what it introduces
+
+pub passed_marked : (place : ℕ) (entry : JournalEntry) (marks : List Bool) (names : List (List ℕ)) → slice_index_or marks place false ≡ true → is_reached place entry marks names ≡ false
+passed_marked place entry marks names at = rw at refl
+
+pub reached_as_noted : (place : ℕ) (entry : JournalEntry) (marks : List Bool) (names : List (List ℕ)) (noted : Bool) → slice_index_or marks place false ≡ false
+    → noted ≡ is_noted names (introduced_by entry) → is_reached place entry marks names ≡ noted
+reached_as_noted place entry marks names noted not_at is = rw not_at (sym is)
 
 -- an entry that is neither marked nor cited
 
@@ -455,9 +464,9 @@ user_of_name (entry ∷ entries) (true ∷ marks) name member = elim (of_append 
 user_of_name (entry ∷ entries) (false ∷ marks) name member = used_later entry false entries marks name (user_of_name entries marks name member)
 
 -- before any entry is looked at for its name
-pub naming_begun : (entries : List JournalEntry) (claimed : List ℕ) (marks : List Bool) (names : List (List ℕ)) → StandOnEarlier entries
-    → AreCitedFrom entries claimed 0 marks → Notes [] names (names_of_marked entries marks) → IsMarkedFrom entries claimed (length entries) marks names
-naming_begun entries claimed marks names earlier cited notes = record {
+pub naming_begun : (entries : List JournalEntry) (claimed : List ℕ) (marks : List Bool) (before names : List (List ℕ)) → StandOnEarlier entries → AreCitedFrom entries claimed 0 marks
+    → AreMentioned entries claimed before → Notes before names (names_of_marked entries marks) → IsMarkedFrom entries claimed (length entries) marks names
+naming_begun entries claimed marks before names earlier cited were_mentioned notes = record {
   one_each = cited.one_each;
   needed = cited.needed;
   mentioned = λ name member. mentioned name (notes.only name member);
@@ -467,8 +476,8 @@ naming_begun entries claimed marks names earlier cited notes = record {
   noted = λ user using name at there member. notes.added name (names_of_user name entries marks user using at there member);
 }
   where
-    mentioned : (name : List ℕ) → IsMember name [] ⊎ IsMember name (names_of_marked entries marks) → IsMentioned entries claimed name
-    mentioned name (inl none) = absurd none
+    mentioned : (name : List ℕ) → IsMember name before ⊎ IsMember name (names_of_marked entries marks) → IsMentioned entries claimed name
+    mentioned name (inl member) = were_mentioned name member
     mentioned name (inr member) =
         let used = user_of_name entries marks name member in
         record { user = used.user; using = used.using; needed = cited.needed used.user used.marked; there = used.there; member = used.member }

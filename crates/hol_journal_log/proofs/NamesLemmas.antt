@@ -188,14 +188,14 @@ write_entries-notes number (entry ∷ entries) (true ∷ marks) w =
 write_entries-notes number (entry ∷ entries) (false ∷ marks) w = write_entries-notes (number + 1) entries marks w
 
 -- names that are noted where they are written
-pub noted_written : (entries : List JournalEntry) (marks : List Bool) (nothing w : Written) (names : List (List ℕ)) → names_written nothing ≡ [] → w ≡ write_entries 0 entries marks nothing
-    → Notes [] names (names_written w) → Notes [] names (names_of_marked entries marks)
-noted_written entries marks nothing w names none is notes = record {
-  kept = λ n h. absurd h;
+pub noted_written : (entries : List JournalEntry) (marks : List Bool) (nothing w : Written) (before names : List (List ℕ)) → names_written nothing ≡ []
+    → w ≡ write_entries 0 entries marks nothing → Notes before names (names_written w) → Notes before names (names_of_marked entries marks)
+noted_written entries marks nothing w before names none is notes = record {
+  kept = notes.kept;
   added = λ n h. notes.added n (written.added n h);
   only = λ n h. elim (notes.only n h) [
-    | inl before ↦ inl before
-    | inr inside ↦ written.only n inside
+    | inl old ↦ inl old
+    | inr inside ↦ (elim (written.only n inside) [ inl none ↦ absurd none | inr member ↦ inr member ])
   ];
 }
   where

@@ -29,6 +29,10 @@ pub record Notes (old new : List (List ℕ)) (names : List (List ℕ)) : Type 0 
   pub added : (name : List ℕ) → IsMember name names → IsMember name new
   pub only : (name : List ℕ) → IsMember name new → IsMember name old ⊎ IsMember name names
 
+-- of these names alone, some are noted besides
+pub record NotesAmong (old new : List (List ℕ)) (names : List (List ℕ)) : Type 0 where
+  pub only : (name : List ℕ) → IsMember name new → IsMember name old ⊎ IsMember name names
+
 -- the names that the code holds
 abbrev pub held_names : List (Bor (List ℕ)) → List (List ℕ)
 held_names names = map (λ name. name.now) names
@@ -91,6 +95,10 @@ pub record IsMentioned (entries : List JournalEntry) (claimed : List ℕ) (name 
   pub needed : IsNeeded entries claimed user
   pub there : slice_get entries user ≡ Some using
   pub member : IsMember name (names_in using)
+
+-- each of the names is mentioned by a needed entry
+abbrev pub AreMentioned : List JournalEntry → List ℕ → List (List ℕ) → Type 0
+AreMentioned entries claimed names = (name : List ℕ) → IsMember name names → IsMentioned entries claimed name
 
 -- Each marked entry is needed, and from a place on each needed one is marked. What marked entries cite is marked, and the
 -- names that they mention are noted, and no others.

@@ -7,7 +7,7 @@ mod fitting;
 mod lines;
 mod log;
 mod log_laws;
-mod mark;
+mod mentions;
 mod needed;
 mod pruning;
 mod writer;

@@ -154,8 +154,8 @@ fn cite(entry: &Entry, marks: &mut Vec<bool>)
     }
 }
 
-// Marks the entry of a number, where it introduces a noted name and is not marked, and notes the names that it mentions.
-fn name_stored<'a>(
+/// Marks the entry of a number, where it introduces a noted name and is not marked, and notes the names that it mentions.
+pub(crate) fn name_stored<'a>(
     recorder: &'a Recorder,
     place: usize,
     marks: &mut Vec<bool>,
@@ -168,31 +168,20 @@ fn name_stored<'a>(
     ensures same { OnOk result (marking.IsSame is_more.old is_more.new marks.old.items marks.new.items) }
     ensures err { IfErr result (λ fault. fault ≡ Memory) }
 {
-    match recorder.stored(place)? {
-        Some(entry) => name_entry(entry, place, marks, names, is_more),
-        None => Ok(()),
-    }
-}
-
-// Marks an entry, where it introduces a noted name and is not marked, and notes the names that it mentions.
-fn name_entry<'a>(
-    entry: &'a Entry,
-    place: usize,
-    marks: &mut Vec<bool>,
-    names: &mut Names<'a>,
-    is_more: &mut bool,
-) -> Result<(), Fault>
-    requires { place < length marks.old.items }
-    ensures ok { OnOk result (marking.IsEntryMarked place (entry_of entry.now) marks.old.items names.old marks.new.items names.new) }
-    ensures same { OnOk result (marking.IsSame is_more.old is_more.new marks.old.items marks.new.items) }
-    ensures err { IfErr result (λ fault. fault ≡ Memory) }
-{
-    if !is_reached(entry, place, marks, names) {
+    if marks[place] {
         return Ok(());
     }
-    *is_more = true;
-    mark(place, marks);
-    note_mentioned(entry, names)
+    match recorder.stored(place)? {
+        None => Ok(()),
+        Some(entry) => {
+            if !is_noted(names, entry) {
+                return Ok(());
+            }
+            *is_more = true;
+            mark(place, marks);
+            note_mentioned(entry, names)
+        }
+    }
 }
 
 // Notes the names that an entry mentions, where it introduces one.
@@ -205,17 +194,6 @@ fn note_mentioned<'a>(entry: &'a Entry, names: &mut Names<'a>) -> Result<(), Fau
         Entry::DeclaredConstant(_, ty) => note_type(ty, names),
         _ => Ok(()),
     }
-}
-
-// Whether the entry introduces a noted name and is not marked.
-fn is_reached(entry: &Entry, place: usize, marks: &[bool], names: &Names<'_>) -> bool
-    requires { place < length marks.now }
-    ensures { result ≡ marking.is_reached place (entry_of entry.now) marks.now names.now }
-{
-    if marks[place] {
-        return false;
-    }
-    is_noted(names, entry)
 }
 
 // Whether the entry introduces a noted name.
@@ -263,7 +241,8 @@ fn mark_both(first: usize, second: usize, marks: &mut Vec<bool>)
     mark(second, marks);
 }
 
-fn note_type<'a>(ty: &'a Ty, names: &mut Names<'a>) -> Result<(), Fault>
+/// Notes the names of the declared types in a type.
+pub(crate) fn note_type<'a>(ty: &'a Ty, names: &mut Names<'a>) -> Result<(), Fault>
     ensures ok { OnOk result (Notes names.old names.new (names_in_type ty.now)) }
     ensures err { IfErr result (λ fault. fault ≡ Memory) }
 {

@@ -14,7 +14,8 @@ ghost use Rattle.hol_journal_log.specs.Writing.{KeepsNames};
 use crate::claim::Claim;
 use crate::fitting::formulas_fit;
 use crate::log_laws::journal_logs_are_accepted;
-use crate::needed::{Names, cited, mark_named};
+use crate::mentions::{mark_mentioned, mentioned_names};
+use crate::needed::{cited, mark_named};
 use crate::writer::Writer;
 use hol_journal::Recorder;
 use hol_logtext::Line;
@@ -75,8 +76,8 @@ fn cited_entries(alloc: Global, claims: &[Claim<'_>]) -> Result<Vec<usize>, Faul
     Ok(numbers)
 }
 
-// Writes the entries that the claimed ones need. The names that they mention are read off what is written, where each term
-// stands once. Mostly the entries that introduce these names are cited; else all is written again.
+// Writes the entries that the claimed ones need. The entries that introduce the names that they mention are looked for first, and again
+// by what is written, where each term stands once. If any was passed over, all is written again.
 fn write_needed<'a>(
     recorder: &'a Recorder,
     claimed: &[usize],
@@ -92,7 +93,8 @@ fn write_needed<'a>(
     ensures err { IfErr result (λ fault. fault ≡ Memory) }
 {
     let alloc = recorder.alloc();
-    let mut names = Names::new(alloc);
+    let mut names = mentioned_names(recorder, claimed, marks)?;
+    mark_mentioned(recorder, claimed, marks, &mut names)?;
     let mut is_more = false;
     writer.write_entries(alloc, recorder, marks)?;
     writer.note_names(&mut names)?;

@@ -25,7 +25,6 @@ ghost use Rattle.hol_journal_log.specs.Writer.{line_of_type, line_of_term, writt
 use crate::claim::Claim;
 use crate::connectives::is_binary;
 use crate::lines::{TermLine, TypeLine};
-use crate::mark::mark_of;
 use crate::needed::Names;
 use hol_journal::Recorder;
 use hol_journal::entry::{Entry, Rule};
@@ -108,12 +107,15 @@ impl<'a> Writer<'a> {
         number(place)
     }
 
-    // Writes a type.
+    // Writes a type. The first type, mostly `bool`, is tried at once.
     fn type_number(&mut self, ty: &'a Ty) -> Result<u32, Fault>
         ensures ok { IfOk result (IsTypeWritten (written self.old) (written self.new) ty.now) }
         ensures named { OnOk result (KeepsNames (written self.old) (written self.new)) }
         ensures err { IfErr result (λ fault. fault ≡ Memory) }
     {
+        if self.has_type(0, ty) {
+            return Ok(0);
+        }
         match ty.parts() {
             TypeParts::Variable(name) => self.put_type(TypeLine::Variable(name)),
             TypeParts::Bool => self.put_type(TypeLine::Bool),
@@ -155,7 +157,8 @@ impl<'a> Writer<'a> {
         matches!(self.type_line(number), Some(TypeLine::Bool))
     }
 
-    // Whether a type is written under a number. Nothing is called for the type `bool` of an argument.
+    // Whether a type is written under a number.
+    #[cycle(has_type)]
     fn is_type_at(&self, number: u32, ty: &Ty) -> bool
         ensures { IsTrue result → IsTypeWritten (written self.now) (written self.now) ty.now number }
     {
@@ -166,10 +169,7 @@ impl<'a> Writer<'a> {
             (TypeLine::Variable(written), TypeParts::Variable(name)) => written == name,
             (TypeLine::Bool, TypeParts::Bool) => true,
             (TypeLine::Function(first, second), TypeParts::Function(domain, codomain)) => {
-                if domain.is_bool() {
-                    return self.is_bool_at(first) && self.is_type_at(second, codomain);
-                }
-                self.is_type_at(first, domain) && self.is_type_at(second, codomain)
+                self.has_type(first, domain) && self.has_type(second, codomain)
             }
             (TypeLine::Declared(written), TypeParts::Declared(name)) => written == name,
             _ => false,
@@ -177,6 +177,7 @@ impl<'a> Writer<'a> {
     }
 
     // The same. Nothing is called for the type `bool`.
+    #[cycle(has_type)]
     fn has_type(&self, number: u32, ty: &Ty) -> bool
         ensures { IsTrue result → IsTypeWritten (written self.now) (written self.now) ty.now number }
     {
@@ -258,7 +259,7 @@ impl<'a> Writer<'a> {
         }
     }
 
-    // Whether a term is written under a number. Of a function and its argument, a variable or a constant is looked at first, and
+    // The same, where the number of the type of connectives is known. Of a function and its argument, a variable or a constant is looked at first, and
     // the walk goes on with the other one alone.
     fn is_term_at(&self, connective: Option<u32>, number: u32, term: &Term) -> bool
         requires { IfSome connective (IsTypeWritten (written self.now) (written self.now) binary) }
@@ -297,12 +298,29 @@ impl<'a> Writer<'a> {
         }
     }
 
+    // The number of the type of connectives, for a term in which one may stand.
+    fn connective_in(&self, term: &Term) -> Option<u32>
+        ensures { IfSome result (IsTypeWritten (written self.now) (written self.now) binary) }
+    {
+        if term.nodes() == 1 {
+            return None;
+        }
+        self.binary_number()
+    }
+
+    // Whether a term is written under a number.
+    fn is_written_at(&self, number: u32, term: &Term) -> bool
+        ensures { IsTrue result → IsTermWritten (written self.now) (written self.now) term.now number }
+    {
+        self.is_term_at(self.connective_in(term), number, term)
+    }
+
     // The number of a term that is known to be written.
-    fn known_number(&self, mark: u32, term: &Term) -> Option<u32>
+    fn known_number(&self, term: &Term) -> Option<u32>
         ensures { IfSome result (IsTermWritten (written self.now) (written self.now) term.now) }
     {
-        let (_, _, hint) = self.hints.get_full(&mark)?;
-        if self.is_term_at(self.binary_number(), *hint, term) {
+        let (_, _, hint) = self.hints.get_full(&term.mark())?;
+        if self.is_written_at(*hint, term) {
             Some(*hint)
         } else {
             None
@@ -316,7 +334,7 @@ impl<'a> Writer<'a> {
         for ahead in 0..2 {
             let at = place.wrapping_add(ahead);
             let number = *numbers.get(at)?;
-            if self.is_term_at(None, number, term) {
+            if self.is_written_at(number, term) {
                 *place = at.wrapping_add(1);
                 return Some(number);
             }
@@ -331,20 +349,17 @@ impl<'a> Writer<'a> {
         ensures named { OnOk result (KeepsNames (written self.old) (written self.new)) }
         ensures err { IfErr result (λ fault. fault ≡ Memory) }
     {
-        let mark = mark_of(term);
-        if let Some(number) = self.known_number(mark, term) {
+        if let Some(number) = self.known_number(term) {
             return Ok(number);
         }
-        let is_new = !self.hints.contains_key(&mark);
-        let number = self.number_by_parts(is_new, term)?;
-        self.hints.insert(mark, number)?;
+        let number = self.number_by_parts(term)?;
+        self.hints.insert(term.mark(), number)?;
         Ok(number)
     }
 
-    // Writes a term behind its parts. Under a term whose mark is another term's too, no part is looked up whole, since each may be
-    // another's but for what stands deep in it.
+    // Writes a term behind its parts.
     #[cycle(term_number)]
-    fn number_by_parts(&mut self, by_marks: bool, term: &'a Term) -> Result<u32, Fault>
+    fn number_by_parts(&mut self, term: &'a Term) -> Result<u32, Fault>
         ensures ok { IfOk result (IsTermWritten (written self.old) (written self.new) term.now) }
         ensures named { OnOk result (KeepsNames (written self.old) (written self.new)) }
         ensures err { IfErr result (λ fault. fault ≡ Memory) }
@@ -356,29 +371,15 @@ impl<'a> Writer<'a> {
                 self.put_term(TermLine::Constant(name, ty))
             }
             Parts::Combination(function, argument) => {
-                let function = self.part_number(by_marks, function)?;
-                let argument = self.part_number(by_marks, argument)?;
+                let function = self.term_number(function)?;
+                let argument = self.term_number(argument)?;
                 self.put_term(TermLine::Combination(function, argument))
             }
             Parts::Abstraction(name, ty, body) => {
                 let binder = self.variable_number(name, ty)?;
-                let body = self.part_number(by_marks, body)?;
+                let body = self.term_number(body)?;
                 self.put_term(TermLine::Abstraction(binder, body))
             }
-        }
-    }
-
-    // Writes a part of a term: by its mark, or by its parts.
-    #[cycle(term_number)]
-    fn part_number(&mut self, by_marks: bool, part: &'a Term) -> Result<u32, Fault>
-        ensures ok { IfOk result (IsTermWritten (written self.old) (written self.new) part.now) }
-        ensures named { OnOk result (KeepsNames (written self.old) (written self.new)) }
-        ensures err { IfErr result (λ fault. fault ≡ Memory) }
-    {
-        if by_marks {
-            self.term_number(part)
-        } else {
-            self.number_by_parts(false, part)
         }
     }
 

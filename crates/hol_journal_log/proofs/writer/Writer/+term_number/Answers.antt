@@ -11,11 +11,11 @@ number_by_parts-returns-in_ok-ty-in-Constant-clause-ok t c =
 pub number_by_parts-returns-in_ok-argument-in-Combination-clause-ok : goal.number_by_parts-returns-in_ok-argument-in-Combination-clause-ok
 number_by_parts-returns-in_ok-argument-in-Combination-clause-ok t c =
     combination_answers c.put_term-in-Combination.result c.args.term.now c.in-Combination.function.now c.in-Combination.argument.now
-    (written c.args.self.now) (written c.part_number.new.self) (written c.part_number-in-Combination.new.self) (written c.put_term-in-Combination.new.self)
+    (written c.args.self.now) (written c.term_number.new.self) (written c.term_number-in-Combination.new.self) (written c.put_term-in-Combination.new.self)
     _ _ c.in-Combination.ensures.value c.in_ok-function-in-Combination.ensures.ok c.in_ok-argument-in-Combination.ensures.ok c.put_term-in-Combination.ensures.ok
 
 pub number_by_parts-returns-in_ok-body-in-Abstraction-clause-ok : goal.number_by_parts-returns-in_ok-body-in-Abstraction-clause-ok
 number_by_parts-returns-in_ok-body-in-Abstraction-clause-ok t c =
     abstraction_answers c.put_term-in-Abstraction.result c.args.term.now c.in-Abstraction.name.now c.in-Abstraction.ty.now c.in-Abstraction.body.now
-    (written c.args.self.now) (written c.variable_number-in-Abstraction.new.self) (written c.part_number-in-Abstraction.new.self) (written c.put_term-in-Abstraction.new.self)
+    (written c.args.self.now) (written c.variable_number-in-Abstraction.new.self) (written c.term_number-in-Abstraction.new.self) (written c.put_term-in-Abstraction.new.self)
     _ _ c.in-Abstraction.ensures.value c.in_ok-binder-in-Abstraction.ensures.ok c.in_ok-body-in-Abstraction.ensures.ok c.put_term-in-Abstraction.ensures.ok
