@@ -18,6 +18,7 @@ use hol_quant::{quantified_parts, spec};
 use hol_subst::variant;
 use hol_terms::Term;
 use std::alloc::Global;
+use std::slice;
 
 // Puts copies of the terms behind others.
 fn push_copies(alloc: Global, all: &mut Vec<Term>, terms: &[Term]) -> Result<(), Fault>
@@ -36,7 +37,7 @@ fn with_others(alloc: Global, first: &Term, others: &[Term]) -> Result<Vec<Term>
     ensures err { IfErr result (λ fault. fault ≡ Memory) }
 {
     let mut all = Vec::new(alloc);
-    all.push(first.copy(alloc)?)?;
+    push_copies(alloc, &mut all, slice::from_ref(first))?;
     push_copies(alloc, &mut all, others)?;
     Ok(all)
 }

@@ -8,7 +8,6 @@ ghost use Rattle.hol_rewrite.specs.RuleSides as spec;
 use crate::choice::Choice;
 use hol_equal::equality::equation_parts;
 use hol_journal::Rec;
-use hol_kernel::Thm;
 use hol_model::Fault;
 use hol_terms::{Term, frees};
 use std::alloc::Global;
@@ -20,16 +19,17 @@ pub fn choice_of(alloc: Global, rules: &[Rec]) -> Result<Choice, Fault>
 {
     let mut choice = Choice::new(alloc)?;
     for rule in rules {
-        add_rule(alloc, &mut choice, rule.theorem())?;
+        add_rule(alloc, &mut choice, rule)?;
     }
     Ok(choice)
 }
 
 // Puts the left side of a rule behind the others.
-fn add_rule(alloc: Global, choice: &mut Choice, rule: &Thm) -> Result<(), Fault>
-    ensures ok { OnOk result (choice.new ≡ choice.old ++ side_of_rule rule.now ∷ []) }
+fn add_rule(alloc: Global, choice: &mut Choice, rule: &Rec) -> Result<(), Fault>
+    ensures ok { OnOk result (choice.new ≡ choice.old ++ side_of_rule rule.now.theorem ∷ []) }
     ensures err { IfErr result (λ fault. fault ≡ Memory) }
 {
+    let rule = rule.theorem();
     let fixed = fixed_variables(alloc, rule.hyps())?;
     choice.add(alloc, fixed, left_side(rule.concl()))
 }

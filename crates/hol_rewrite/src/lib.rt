@@ -11,7 +11,6 @@ mod reduction;
 mod renaming;
 mod rewriting;
 mod rules;
-mod sides;
 
 pub use choice::{Choice, LeftSide};
 pub use left_sides::choice_of;

@@ -14,7 +14,7 @@ ghost use Rattle.hol_rewrite.specs.Reduction.{IsReduced};
 use crate::denial::denied;
 use crate::forms::{Form, rule_form};
 use crate::instances::at_fresh_variable;
-use crate::sides::{affirmed, left_part, right_part};
+use hol_bool::{conjunct1, conjunct2, eqt_intro};
 use hol_equal::conclusion_of;
 use hol_journal::{Rec, Recorder};
 use hol_model::Fault;
@@ -43,8 +43,8 @@ fn parts(recorder: &mut Recorder, logic: &Bool, theorem: &Rec) -> Reduction
     ensures reduced { (under : List NamedTerm) → IsSameSet (map image theorem.now.theorem.hypotheses) (map image under) → IfOk result (IsReduced recorder.new under theorem.now.theorem) }
     ensures err { IfErr result (λ fault. IsPast fault (are_small theorem.now.theorem)) }
 {
-    let left = left_part(recorder, logic, theorem)?;
-    let right = right_part(recorder, logic, theorem)?;
+    let left = conjunct1(recorder, logic, theorem)?;
+    let right = conjunct2(recorder, logic, theorem)?;
     Ok(Reduced::Parts(left, right))
 }
 
@@ -60,19 +60,6 @@ fn body(recorder: &mut Recorder, logic: &Bool, hypotheses: &[Term], theorem: &Re
 {
     let instance = at_fresh_variable(recorder, logic, hypotheses, theorem)?;
     Ok(Reduced::Body(instance))
-}
-
-// `a = b` itself.
-fn itself(recorder: &mut Recorder, theorem: &Rec) -> Reduction
-    requires made { IsMade recorder.old theorem.now }
-    requires form { (a : NamedTerm) × (b : NamedTerm) × (spec.rule_form theorem.now.theorem.conclusion ≡ spec.equal a b) }
-    ensures goes_on { GoesOn recorder.old recorder.new }
-    ensures reduced { (under : List NamedTerm) → IsSameSet (map image theorem.now.theorem.hypotheses) (map image under) → IfOk result (IsReduced recorder.new under theorem.now.theorem) }
-    ensures err { IfErr result (λ fault. IsPast fault (are_small theorem.now.theorem)) }
-{
-    let alloc = recorder.alloc();
-    let rule = theorem.copy(alloc)?;
-    Ok(Reduced::Rule(rule))
 }
 
 // `p <=> F`, from `~p`.
@@ -97,7 +84,8 @@ fn truth(recorder: &mut Recorder, logic: &Bool, theorem: &Rec) -> Reduction
     ensures reduced { (under : List NamedTerm) → IsSameSet (map image theorem.now.theorem.hypotheses) (map image under) → IfOk result (IsReduced recorder.new under theorem.now.theorem) }
     ensures err { IfErr result (λ fault. IsPast fault (are_small theorem.now.theorem)) }
 {
-    let rule = affirmed(recorder, logic, theorem)?;
+    let _conclusion = conclusion_of(recorder, theorem);
+    let rule = eqt_intro(recorder, logic, theorem)?;
     Ok(Reduced::Rule(rule))
 }
 
@@ -119,7 +107,7 @@ pub(crate) fn reduce(
     match rule_form(conclusion) {
         Form::Both(_, _) => parts(recorder, logic, theorem),
         Form::Every(_, _, _) => body(recorder, logic, hypotheses, theorem),
-        Form::Equal(_, _) => itself(recorder, theorem),
+        Form::Equal(_, _) => Ok(Reduced::Rule(theorem.copy(recorder.alloc())?)),
         Form::Denied(part) => falsity(recorder, logic, part, theorem),
         Form::Stated(_) => truth(recorder, logic, theorem),
     }

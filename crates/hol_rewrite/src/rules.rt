@@ -39,6 +39,7 @@ fn both(mut rules: Vec<Rec>, mut more: Vec<Rec>) -> Result<Vec<Rec>, Fault>
 // The rules of a theorem whose hypotheses are these.
 #[tactic(auto, using(crate::proofs::Reducing::reducing))]
 fn rules_under(
+    alloc: Global,
     recorder: &mut Recorder,
     logic: &Bool,
     hypotheses: &[Term],
@@ -52,14 +53,13 @@ fn rules_under(
     ensures ok { IfOk result (λ rules. HasRules hypotheses.now theorem.now.theorem.conclusion (theorems rules.items)) }
     ensures err { IfErr result (λ fault. IsPast fault (are_small theorem.now.theorem)) }
 {
-    let alloc = recorder.alloc();
     match reduce(recorder, logic, hypotheses, theorem) {
         Ok(Reduced::Parts(left, right)) => {
-            let rules = rules_under(recorder, logic, hypotheses, &left)?;
-            let more = rules_under(recorder, logic, hypotheses, &right)?;
+            let rules = rules_under(alloc, recorder, logic, hypotheses, &left)?;
+            let more = rules_under(alloc, recorder, logic, hypotheses, &right)?;
             both(rules, more)
         }
-        Ok(Reduced::Body(body)) => rules_under(recorder, logic, hypotheses, &body),
+        Ok(Reduced::Body(body)) => rules_under(alloc, recorder, logic, hypotheses, &body),
         Ok(Reduced::Rule(rule)) => one(alloc, rule),
         Err(fault) => Err(fault),
     }
@@ -78,6 +78,7 @@ pub fn rules_of(recorder: &mut Recorder, logic: &Bool, theorem: &Rec) -> Result<
     ensures ok { IfOk result (λ rules. AnswersRules theorem.now.theorem (Ok (theorems rules.items))) }
     ensures err { IfErr result (λ fault. AnswersRules theorem.now.theorem (Err fault)) }
 {
+    let alloc = recorder.alloc();
     let hypotheses = recorder.thm(theorem).hyps();
-    rules_under(recorder, logic, hypotheses, theorem)
+    rules_under(alloc, recorder, logic, hypotheses, theorem)
 }
