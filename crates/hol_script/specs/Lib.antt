@@ -3,4 +3,3 @@ pub mod RunLogs
 pub mod Managers
 pub mod Conversations
 pub mod Courses
-pub mod Endings

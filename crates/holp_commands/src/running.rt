@@ -7,7 +7,7 @@ use crate::options::Options;
 use crate::output::Output;
 use crate::scripts::{Scripts, open_scripts, read_scripts};
 use hol_device_adapters::{FromRead, IntoCall, IntoWrite};
-use hol_explain::{Devices, Ended, Script, Walk, explain, run};
+use hol_explain::{Ended, Script, Walk, explain, run};
 use hol_model::{Fault, Sink};
 use holp_goals::View;
 use std::cell::RefCell;
@@ -53,30 +53,25 @@ pub(crate) fn refused_in(ended: Ended) -> Result<u64, Fault> {
 
 // Runs a script over the host of the program, and answers how many of its commands were refused. Where these are to be explained,
 // what is said of them, and noted of others, is written to standard error behind the run, and takes no part in how it ends.
-fn run_with<W: Sink + Drop, L: Sink + Drop>(
+fn run_with<W: Sink, L: Sink>(
     rt: &HostRuntime,
     script: &Script<'_>,
     options: Options,
-    writer: W,
-    log: L,
+    writer: &mut W,
+    log: &mut L,
     wants_log: bool,
 ) -> Result<u64, Fault>
-    requires writer_unfailed { W.has_failed writer ≡ false }
-    requires log_unfailed { L.has_failed log ≡ false }
+    requires writer_unfailed { W.has_failed writer.old ≡ false }
+    requires log_unfailed { L.has_failed log.old ≡ false }
 {
     let alloc = rt.alloc();
     let functions = host();
-    let mut devices = Devices {
-        reader: FromRead::new(script.text),
-        writer,
-        log,
-        wants_log,
-    };
     if options.tells_records {
         let walk = Walk::of_records(alloc, script, &functions);
-        return explain(&walk, &mut devices.writer);
+        return explain(&walk, writer);
     }
-    let ended = run(alloc, &mut devices, &functions)?;
+    let mut reader = FromRead::new(script.text);
+    let ended = run(alloc, &mut reader, writer, log, wants_log, &functions)?;
     if !options.explains {
         return refused_in(ended);
     }
@@ -90,14 +85,14 @@ fn run_with<W: Sink + Drop, L: Sink + Drop>(
 
 // Runs scripts as one, and answers how many of their commands were refused. Standard error tells where these stand, or, where it
 // is to explain them, why they were refused.
-fn run_over<L: Sink + Drop>(
+fn run_over<L: Sink>(
     rt: &HostRuntime,
     scripts: &Scripts<'_>,
     options: Options,
-    log: L,
+    log: &mut L,
     wants_log: bool,
 ) -> Result<u64, Fault>
-    requires { L.has_failed log ≡ false }
+    requires { L.has_failed log.old ≡ false }
 {
     let host_names = host_names(rt.alloc())?;
     let script = Script {
@@ -111,8 +106,8 @@ fn run_over<L: Sink + Drop>(
         None
     };
     let is_told = options.explains || options.tells_records;
-    let writer = Output::new(rt, scripts.told(is_told), view.as_ref());
-    run_with(rt, &script, options, writer, log, wants_log)
+    let mut writer = Output::new(rt, scripts.told(is_told), view.as_ref());
+    run_with(rt, &script, options, &mut writer, log, wants_log)
 }
 
 /// Runs scripts as one, and answers how many of their commands were refused. Where a log is asked for, its file is made once the
@@ -127,11 +122,11 @@ pub(crate) fn run_scripts(
     let opened = open_scripts(rt, names, options.explains)?;
     let Some(log) = log else {
         let scripts = read_scripts(rt, names, opened)?;
-        let no_log = IntoWrite::new(Vec::new(rt.alloc()));
-        return run_over(rt, &scripts, options, no_log, false);
+        let mut no_log = IntoWrite::new(Vec::new(rt.alloc()));
+        return run_over(rt, &scripts, options, &mut no_log, false);
     };
     let mut file = create(rt, log)?;
     let scripts = read_scripts(rt, names, opened)?;
     let logs = Box::new(rt.alloc(), move |piece: &[u8]| file.write(piece))?;
-    run_over(rt, &scripts, options, IntoCall::new(logs), true)
+    run_over(rt, &scripts, options, &mut IntoCall::new(logs), true)
 }
