@@ -24,37 +24,24 @@ use Rattle.hol_conv.specs.Answers.{IsAsked, AnswersOver, AnswersBehind}
 use Rattle.hol_conv.specs.Chains.{proved_by}
 use Rattle.hol_conv.specs.declared.chain.Chain.{Chain}
 
--- ---- known parts
-
-halves : (a b c d e f : Bool) → (a && b && (c && d) && (e && f)) ≡ true → ((a && c && e) ≡ true) × ((b && d && f) ≡ true)
-halves true true true true true true is = (refl, refl)
-halves true true true true true false is = cc
-halves true true true true false f is = cc
-halves true true true false e f is = cc
-halves true true false d e f is = cc
-halves true false c d e f is = cc
-halves false b c d e f is = cc
-
-known-halves : (theory : Theory) (f x : NamedTerm) → is_known theory (combination f x) ≡ true → (is_known theory f ≡ true) × (is_known theory x ≡ true)
-known-halves theory f x known =
-    halves (knows_types theory f) (knows_types theory x) (knows_constants theory f) (knows_constants theory x) (has_instances theory f) (has_instances theory x) known
-
 -- ---- of parts
 
-with-term : {ready : Library → Type 0} {library : Library} {t u : NamedTerm} → IsAsked ready library t → is_known library.recorder.theory u ≡ true → IsAsked ready library u
-with-term asked known = record { is_library = asked.is_library; ready = asked.ready; known = known }
+second-halves : (a b c d e f : Bool) → (a && b && (c && d) && (e && f)) ≡ true → (b && d && f) ≡ true
+second-halves true true true true true true is = refl
+second-halves true true true true true false is = cc
+second-halves true true true true false f is = cc
+second-halves true true true false e f is = cc
+second-halves true true false d e f is = cc
+second-halves true false c d e f is = cc
+second-halves false b c d e f is = cc
 
-known-as : {ready : Library → Type 0} {library : Library} {t u : NamedTerm} → IsAsked ready library t → t ≡ u → is_known library.recorder.theory u ≡ true
-known-as {library} asked is = subst (λ (u : NamedTerm). is_known library.recorder.theory u ≡ true) is asked.known
-
-pub known-function : {ready : Library → Type 0} {library : Library} {t f x : NamedTerm} → IsAsked ready library t → t ≡ combination f x → is_known library.recorder.theory f ≡ true
-known-function {library} {f} {x} asked is = (known-halves library.recorder.theory f x (known-as asked is)).0
-
-pub known-argument : {ready : Library → Type 0} {library : Library} {t f x : NamedTerm} → IsAsked ready library t → t ≡ combination f x → is_known library.recorder.theory x ≡ true
-known-argument {library} {f} {x} asked is = (known-halves library.recorder.theory f x (known-as asked is)).1
+known-argument : {t f x : NamedTerm} (theory : Theory) → t ≡ combination f x → is_known theory t ≡ true → is_known theory x ≡ true
+known-argument {f} {x} theory is known =
+    second-halves (knows_types theory f) (knows_types theory x) (knows_constants theory f) (knows_constants theory x) (has_instances theory f) (has_instances theory x)
+    (subst (λ (t : NamedTerm). is_known theory t ≡ true) is known)
 
 pub of-argument : {ready : Library → Type 0} {library : Library} {t f x : NamedTerm} → IsAsked ready library t → t ≡ combination f x → IsAsked ready library x
-of-argument asked is = with-term asked (known-argument asked is)
+of-argument {library} asked is = record { is_library = asked.is_library; ready = asked.ready; known = known-argument library.recorder.theory is asked.known }
 
 -- ---- after calls
 

@@ -17,7 +17,7 @@ ghost use Rattle.hol_conv.specs.Converted.{theorem_of, answered, IsAnswerOf, Mak
 ghost use Rattle.hol_conv.specs.Chains as chains;
 ghost use Rattle.hol_conv.specs.Chains.{proved_by, LeadUpTo, IsChain, BeginsAt, IsChainFrom, Settles, Reflects, Finishes, Tries, IsExtended, Links, LinksMade};
 
-use crate::converted::{Converted, as_answer, only_changed, theorem, unchanged};
+use crate::converted::{Answer, Converted, as_answer, only_changed, theorem, unchanged};
 use crate::joins::{refl_known, right_side, trans_known};
 use hol_journal::Rec;
 use hol_model::Fault;
@@ -51,7 +51,7 @@ fn begin(alloc: Global, t: &Term) -> Result<Chain, Fault>
 }
 
 /// ALL_CONV of a known term: nothing is made.
-pub(crate) fn same(library: &Library, t: &Term, fuel: &mut Fuel) -> Result<Converted, Fault>
+pub(crate) fn same(library: &Library, t: &Term, fuel: &mut Fuel) -> Answer
     requires library { IsLibrary library.now }
     requires known { is_known library.now.recorder.theory t.now ≡ true }
     ensures reflects { Reflects library.now.recorder.theory t.now fuel.old.left (answered library.now.recorder.theory t.now result) fuel.new.left }
@@ -87,7 +87,7 @@ pub(crate) fn finish(
     chain: Chain,
     fault: Fault,
     fuel: &mut Fuel,
-) -> Result<Converted, Fault>
+) -> Answer
     requires library { IsLibrary library.old }
     requires chain { IsChainFrom library.old t.now chain }
     ensures finishes { Finishes library.old.recorder.theory (proved_by library.old.recorder.theory chain) chain.current fault fuel.old.left
@@ -113,12 +113,7 @@ pub(crate) fn finish(
 }
 
 /// What was answered on the term, or ALL_CONV where it is a refusal that is caught.
-pub(crate) fn or_same(
-    library: &Library,
-    t: &Term,
-    answer: Result<Converted, Fault>,
-    fuel: &mut Fuel,
-) -> Result<Converted, Fault>
+pub(crate) fn or_same(library: &Library, t: &Term, answer: Answer, fuel: &mut Fuel) -> Answer
     requires library { IsLibrary library.now }
     requires known { is_known library.now.recorder.theory t.now ≡ true }
     requires answer { IfOk answer (IsAnswerOf library.now t.now) }
@@ -137,7 +132,7 @@ pub(crate) fn or_same(
 }
 
 /// What was answered on the term, where it is not that it equals itself: CHANGED_CONV.
-pub(crate) fn changed(t: &Term, answer: Result<Converted, Fault>) -> Result<Converted, Fault>
+pub(crate) fn changed(t: &Term, answer: Answer) -> Answer
     ensures same { IfOk result (λ same. answer ≡ Ok same) }
     ensures changed { (theory : Theory) → answered theory t.now result ≡ conversions.if_changed t.now (answered theory t.now answer) }
 {
@@ -269,7 +264,7 @@ pub(crate) fn begin_twice(
 #[derive(Drop)]
 pub(crate) enum Linked {
     GoesOn(Chain),
-    Ends(Result<Converted, Fault>),
+    Ends(Answer),
 }
 
 /// Puts what was answered on the current term behind the theorems of a chain from a term, or ends it.
@@ -277,7 +272,7 @@ pub(crate) fn link(
     library: &mut Library,
     t: &Term,
     chain: Chain,
-    answer: Result<Converted, Fault>,
+    answer: Answer,
     fuel: &mut Fuel,
 ) -> Linked
     requires library { IsLibrary library.old }

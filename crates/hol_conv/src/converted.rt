@@ -17,6 +17,7 @@ ghost use Rattle.hol_conv.specs.Converted.{same_theorem, theorem_of, answered, c
 use crate::joins::{
     abs, ap_term, ap_thm, if_changed, mk_comb, refl_known, right_side, trans_known,
 };
+use crate::parts::Halves;
 use hol_journal::Rec;
 use hol_model::Fault;
 use hol_terms::{Term, equation_fits};
@@ -30,8 +31,11 @@ pub enum Converted {
     Changed(Rec),
 }
 
+/// An answer, or its refusal.
+pub type Answer = Result<Converted, Fault>;
+
 /// That the term equals itself. Refused as REFL of a known term: TooLarge.
-pub fn unchanged(t: &Term) -> Result<Converted, Fault>
+pub fn unchanged(t: &Term) -> Answer
     ensures outcome { (theory : Theory) → is_known theory t.now ≡ true → answered theory t.now result ≡ refl_outcome theory t.now }
     ensures answer { (library : library.Library) → IfOk result (IsAnswerOf library t.now) }
 {
@@ -43,7 +47,7 @@ pub fn unchanged(t: &Term) -> Result<Converted, Fault>
 }
 
 /// A theorem that was made, as an answer.
-pub fn as_answer(made: Result<Rec, Fault>) -> Result<Converted, Fault>
+pub fn as_answer(made: Result<Rec, Fault>) -> Answer
     ensures same { result ≡ changed_by made }
     ensures answered { (theory : Theory) (t : NamedTerm) → answered theory t result ≡ theorem_in made }
     ensures made { (old new : library.Library) (t : NamedTerm) → Makes old new made → MakesAnswer old new t result }
@@ -52,11 +56,7 @@ pub fn as_answer(made: Result<Rec, Fault>) -> Result<Converted, Fault>
 }
 
 /// The theorem of an answer on a known term.
-pub fn theorem(
-    library: &mut Library,
-    t: &Term,
-    answer: Result<Converted, Fault>,
-) -> Result<Rec, Fault>
+pub fn theorem(library: &mut Library, t: &Term, answer: Answer) -> Result<Rec, Fault>
     requires library { IsLibrary library.old }
     requires known { is_known library.old.recorder.theory t.now ≡ true }
     requires answer { IfOk answer (IsAnswerOf library.old t.now) }
@@ -87,20 +87,18 @@ pub fn right_of<'a>(library: &Library, t: &'a Term, answer: &'a Converted) -> &'
 pub fn of_parts(
     library: &mut Library,
     t: &Term,
-    function: &Term,
-    argument: &Term,
+    halves: Halves,
     first: Converted,
-    second: Result<Converted, Fault>,
-) -> Result<Converted, Fault>
+    second: Answer,
+) -> Answer
     requires library { IsLibrary library.old }
-    requires whole { t.now ≡ combination function.now argument.now }
+    requires whole { t.now ≡ combination halves.function.now halves.argument.now }
     requires known { is_known library.old.recorder.theory t.now ≡ true }
-    requires function { is_known library.old.recorder.theory function.now ≡ true }
-    requires argument { is_known library.old.recorder.theory argument.now ≡ true }
-    requires first { IsAnswerOf library.old function.now first }
-    requires second { IfOk second (IsAnswerOf library.old argument.now) }
+    requires first { IsAnswerOf library.old halves.function.now first }
+    requires second { IfOk second (IsAnswerOf library.old halves.argument.now) }
     ensures joins { Joins
-        (conversions.of_parts library.old.recorder.theory (Ok (theorem_of library.old.recorder.theory function.now first)) (answered library.old.recorder.theory argument.now second))
+        (conversions.of_parts library.old.recorder.theory (Ok (theorem_of library.old.recorder.theory halves.entry.function.now first))
+        (answered library.old.recorder.theory halves.entry.argument.now second))
         (answered library.old.recorder.theory t.now result) }
     ensures makes { MakesAnswer library.old library.new t.now result }
 {
@@ -109,68 +107,47 @@ pub fn of_parts(
     match first {
         Converted::Same => match second {
             Converted::Same => unchanged(t),
-            Converted::Changed(second) => as_answer(ap_term(library, function, &second)),
+            Converted::Changed(second) => as_answer(ap_term(library, halves.function, &second)),
         },
         Converted::Changed(first) => match second {
-            Converted::Same => as_answer(ap_thm(library, &first, argument)),
+            Converted::Same => as_answer(ap_thm(library, &first, halves.argument)),
             Converted::Changed(second) => as_answer(mk_comb(library, &first, &second)),
         },
     }
 }
 
 /// AP_TERM of an answer on the argument of a known term. Refused as REFL of the function, which may have the larger type.
-pub fn of_argument(
-    library: &mut Library,
-    t: &Term,
-    function: &Term,
-    argument: &Term,
-    part: Result<Converted, Fault>,
-) -> Result<Converted, Fault>
+pub fn of_argument(library: &mut Library, t: &Term, halves: Halves, part: Answer) -> Answer
     requires library { IsLibrary library.old }
-    requires whole { t.now ≡ combination function.now argument.now }
+    requires whole { t.now ≡ combination halves.function.now halves.argument.now }
     requires known { is_known library.old.recorder.theory t.now ≡ true }
-    requires function { is_known library.old.recorder.theory function.now ≡ true }
-    requires argument { is_known library.old.recorder.theory argument.now ≡ true }
-    requires part { IfOk part (IsAnswerOf library.old argument.now) }
-    ensures joins { Joins (conversions.of_argument library.old.recorder.theory function.now (answered library.old.recorder.theory argument.now part))
+    requires part { IfOk part (IsAnswerOf library.old halves.argument.now) }
+    ensures joins { Joins (conversions.of_argument library.old.recorder.theory halves.entry.function.now (answered library.old.recorder.theory halves.entry.argument.now part))
         (answered library.old.recorder.theory t.now result) }
     ensures makes { MakesAnswer library.old library.new t.now result }
 {
     let part = part?;
-    let same = unchanged(function)?;
-    of_parts(library, t, function, argument, same, Ok(part))
+    let same = unchanged(halves.function)?;
+    of_parts(library, t, halves, same, Ok(part))
 }
 
 /// AP_THM of an answer on the function of a known term. Refused as REFL of the argument, which may have the larger type.
-pub fn of_function(
-    library: &mut Library,
-    t: &Term,
-    function: &Term,
-    part: Result<Converted, Fault>,
-    argument: &Term,
-) -> Result<Converted, Fault>
+pub fn of_function(library: &mut Library, t: &Term, halves: Halves, part: Answer) -> Answer
     requires library { IsLibrary library.old }
-    requires whole { t.now ≡ combination function.now argument.now }
+    requires whole { t.now ≡ combination halves.function.now halves.argument.now }
     requires known { is_known library.old.recorder.theory t.now ≡ true }
-    requires function { is_known library.old.recorder.theory function.now ≡ true }
-    requires argument { is_known library.old.recorder.theory argument.now ≡ true }
-    requires part { IfOk part (IsAnswerOf library.old function.now) }
-    ensures joins { Joins (conversions.of_function library.old.recorder.theory argument.now (answered library.old.recorder.theory function.now part))
+    requires part { IfOk part (IsAnswerOf library.old halves.function.now) }
+    ensures joins { Joins (conversions.of_function library.old.recorder.theory halves.entry.argument.now (answered library.old.recorder.theory halves.entry.function.now part))
         (answered library.old.recorder.theory t.now result) }
     ensures makes { MakesAnswer library.old library.new t.now result }
 {
     let part = part?;
-    let same = unchanged(argument)?;
-    of_parts(library, t, function, argument, part, Ok(same))
+    let same = unchanged(halves.argument)?;
+    of_parts(library, t, halves, part, Ok(same))
 }
 
 /// ABS of an answer on the body of a known term, an abstraction over this variable. Refused as `abs`.
-pub fn of_body(
-    library: &mut Library,
-    t: &Term,
-    binder: &Term,
-    part: Result<Converted, Fault>,
-) -> Result<Converted, Fault>
+pub fn of_body(library: &mut Library, t: &Term, binder: &Term, part: Answer) -> Answer
     requires library { IsLibrary library.old }
     requires known { is_known library.old.recorder.theory t.now ≡ true }
     requires part { IfOk part (IsHeldIn library.old) }
@@ -218,8 +195,8 @@ pub fn then(
     t: &Term,
     first: &Converted,
     right: &Term,
-    next: Result<Converted, Fault>,
-) -> Result<Converted, Fault>
+    next: Answer,
+) -> Answer
     requires library { IsLibrary library.old }
     requires known { is_known library.old.recorder.theory t.now ≡ true }
     requires right { is_known library.old.recorder.theory right.now ≡ true }
@@ -245,7 +222,7 @@ pub fn then(
 }
 
 /// The answer, where it is not that the term equals itself. Refused: ConvFails.
-pub fn only_changed(t: &Term, answer: Converted) -> Result<Converted, Fault>
+pub fn only_changed(t: &Term, answer: Converted) -> Answer
     ensures same { IfOk result (λ same. same ≡ answer) }
     ensures changed { (theory : Theory) → answered theory t.now result ≡ conversions.if_changed t.now (Ok (theorem_of theory t.now answer)) }
 {

@@ -12,10 +12,10 @@ ghost use Rattle.hol_conv.specs.Chains.{IsChainFrom};
 
 use crate::chain::{Chain, Linked, begin_by, begin_twice, changed, link, or_same, same};
 use crate::converted::{
-    Converted, as_answer, of_argument, of_body, of_function, of_parts, right_of, then, theorem,
+    Answer, as_answer, of_argument, of_body, of_function, of_parts, right_of, then, theorem,
 };
 use crate::leaves::{Leaves, Made};
-use crate::parts::{abstraction, combination};
+use crate::parts::{Halves, abstraction, combination};
 use hol_model::{DESCENTS_LIMIT, Fault};
 use hol_tactic_exprs::{Conv, Fuel, Prefix, is_caught};
 use hol_terms::{Parts, Term};
@@ -42,14 +42,25 @@ pub fn convert<L: Leaves>(
     theorem(library, t, answer)
 }
 
-// What a conversion answers on a term.
-type Answer = Result<Converted, Fault>;
-
 // What tries the conversions without parts, and how many descents are open.
 #[derive(Drop)]
 struct Level<'a, L> {
     leaves: &'a L,
     depth: u32,
+}
+
+// The conversions that THENC or ORELSEC chains.
+#[derive(Clone, Copy)]
+struct Convs<'a> {
+    first: &'a Conv,
+    others: &'a [Conv],
+}
+
+// DEPTH_CONV, ONCE_DEPTH_CONV or TOP_DEPTH_CONV, and its part.
+#[derive(Clone, Copy)]
+struct Deep<'a> {
+    conv: &'a Conv,
+    part: &'a Conv,
 }
 
 impl<L: Leaves> Level<'_, L> {
@@ -76,8 +87,8 @@ impl<L: Leaves> Level<'_, L> {
             Conv::Beta => self.leaf(library, conv, t, fuel),
             Conv::Rewr(_) => self.leaf(library, conv, t, fuel),
             Conv::Host(_) => self.leaf(library, conv, t, fuel),
-            Conv::Then(first, others) => self.thenc(library, first, others, t, fuel),
-            Conv::OrElse(first, others) => self.orelsec(library, first, others, t, fuel),
+            Conv::Then(first, others) => self.thenc(library, Convs { first, others }, t, fuel),
+            Conv::OrElse(first, others) => self.orelsec(library, Convs { first, others }, t, fuel),
             Conv::Prefixed(prefix, part) => match *prefix {
                 Prefix::Repeat => self.repeatc(library, part, t, fuel),
                 Prefix::Try => {
@@ -88,29 +99,23 @@ impl<L: Leaves> Level<'_, L> {
                 Prefix::Rator => self.rator_conv(library, part, t, fuel),
                 Prefix::Abs => self.abs_conv(library, part, t, fuel),
                 Prefix::Sub => self.sub_conv(library, part, t, fuel),
-                Prefix::Depth => self.depth_conv(library, conv, part, t, fuel),
-                Prefix::OnceDepth => self.once_depth_conv(library, conv, part, t, fuel),
-                Prefix::TopDepth => self.top_depth_conv(library, conv, part, t, fuel),
+                Prefix::Depth => self.depth_conv(library, Deep { conv, part }, t, fuel),
+                Prefix::OnceDepth => self.once_depth_conv(library, Deep { conv, part }, t, fuel),
+                Prefix::TopDepth => self.top_depth_conv(library, Deep { conv, part }, t, fuel),
             },
         }
     }
 
     // THENC, joined by TRANS from the left.
     #[cycle(converted)]
-    fn thenc(
-        &self,
-        library: &mut Library,
-        first: &Conv,
-        others: &[Conv],
-        t: &Term,
-        fuel: &mut Fuel,
-    ) -> Answer
+    fn thenc(&self, library: &mut Library, convs: Convs, t: &Term, fuel: &mut Fuel) -> Answer
         requires asked { IsAsked (L.is_ready self.now.leaves.now) library.old t.now }
-        ensures converts { AnswersOver library.old (L.hosts self.now.leaves.now) self.now.depth fuel.old.left (thenc_of (L.means self.now.leaves.now) first.now others.now) t.now result fuel.new.left }
+        ensures converts { AnswersOver library.old (L.hosts self.now.leaves.now) self.now.depth fuel.old.left
+            (thenc_of (L.means self.now.leaves.now) convs.entry.first.now convs.entry.others.now) t.now result fuel.new.left }
         ensures makes { MakesAnswer library.old library.new t.now result }
     {
-        let mut made = self.converted(library, first, t, fuel)?;
-        for other in others {
+        let mut made = self.converted(library, convs.first, t, fuel)?;
+        for other in convs.others {
             let right = right_of(library, t, &made);
             let next = self.converted(library, other, right, fuel);
             made = then(library, t, &made, right, next)?;
@@ -120,24 +125,17 @@ impl<L: Leaves> Level<'_, L> {
 
     // ORELSEC.
     #[cycle(converted)]
-    fn orelsec(
-        &self,
-        library: &mut Library,
-        first: &Conv,
-        others: &[Conv],
-        t: &Term,
-        fuel: &mut Fuel,
-    ) -> Answer
+    fn orelsec(&self, library: &mut Library, convs: Convs, t: &Term, fuel: &mut Fuel) -> Answer
         requires asked { IsAsked (L.is_ready self.now.leaves.now) library.old t.now }
         ensures converts { AnswersOver library.old (L.hosts self.now.leaves.now) self.now.depth fuel.old.left
-            (orelsec_of (L.means self.now.leaves.now) first.now others.now) t.now result fuel.new.left }
+            (orelsec_of (L.means self.now.leaves.now) convs.entry.first.now convs.entry.others.now) t.now result fuel.new.left }
         ensures makes { MakesAnswer library.old library.new t.now result }
     {
-        let mut fault = match self.converted(library, first, t, fuel) {
+        let mut fault = match self.converted(library, convs.first, t, fuel) {
             Ok(made) => return Ok(made),
             Err(fault) => fault,
         };
-        for other in others {
+        for other in convs.others {
             if !is_caught(&fault) {
                 return Err(fault);
             }
@@ -215,9 +213,9 @@ impl<L: Leaves> Level<'_, L> {
             (conversions.rand_conv (stands_for (L.means self.now.leaves.now) conv.now)) t.now result fuel.new.left }
         ensures makes { MakesAnswer library.old library.new t.now result }
     {
-        let (function, argument) = combination(t, self.depth)?;
-        let part = self.below(library, conv, argument, fuel);
-        of_argument(library, t, function, argument, part)
+        let halves = combination(t, self.depth)?;
+        let part = self.below(library, conv, halves.argument, fuel);
+        of_argument(library, t, halves, part)
     }
 
     // RATOR_CONV.
@@ -228,9 +226,9 @@ impl<L: Leaves> Level<'_, L> {
             (conversions.rator_conv (stands_for (L.means self.now.leaves.now) conv.now)) t.now result fuel.new.left }
         ensures makes { MakesAnswer library.old library.new t.now result }
     {
-        let (function, argument) = combination(t, self.depth)?;
-        let part = self.below(library, conv, function, fuel);
-        of_function(library, t, function, part, argument)
+        let halves = combination(t, self.depth)?;
+        let part = self.below(library, conv, halves.function, fuel);
+        of_function(library, t, halves, part)
     }
 
     // ABS_CONV.
@@ -261,7 +259,7 @@ impl<L: Leaves> Level<'_, L> {
                 }
                 let first = self.below(library, conv, function, fuel)?;
                 let second = self.below(library, conv, argument, fuel);
-                of_parts(library, t, function, argument, first, second)
+                of_parts(library, t, Halves { function, argument }, first, second)
             }
             Parts::Abstraction(_, _, _) => self.abs_conv(library, conv, t, fuel),
             Parts::Variable(_, _) => same(library, t, fuel),
@@ -269,72 +267,60 @@ impl<L: Leaves> Level<'_, L> {
         }
     }
 
-    // DEPTH_CONV, the whole of a part.
+    // DEPTH_CONV.
     #[cycle(converted)]
-    fn depth_conv(
-        &self,
-        library: &mut Library,
-        whole: &Conv,
-        part: &Conv,
-        t: &Term,
-        fuel: &mut Fuel,
-    ) -> Answer
-        requires whole { conversion_of whole.now ≡ conversions.depth_conv (conversion_of part.now) }
+    fn depth_conv(&self, library: &mut Library, deep: Deep, t: &Term, fuel: &mut Fuel) -> Answer
+        requires whole { conversion_of deep.conv.now ≡ conversions.depth_conv (conversion_of deep.part.now) }
         requires asked { IsAsked (L.is_ready self.now.leaves.now) library.old t.now }
-        ensures converts { AnswersOver library.old (L.hosts self.now.leaves.now) self.now.depth fuel.old.left (stands_for (L.means self.now.leaves.now) whole.now) t.now result fuel.new.left }
+        ensures converts { AnswersOver library.old (L.hosts self.now.leaves.now) self.now.depth fuel.old.left
+            (stands_for (L.means self.now.leaves.now) deep.entry.conv.now) t.now result fuel.new.left }
         ensures makes { MakesAnswer library.old library.new t.now result }
     {
-        let below = self.sub_conv(library, whole, t, fuel)?;
+        let below = self.sub_conv(library, deep.conv, t, fuel)?;
         let right = right_of(library, t, &below);
-        let here = self.repeatc(library, part, right, fuel);
+        let here = self.repeatc(library, deep.part, right, fuel);
         then(library, t, &below, right, here)
     }
 
-    // ONCE_DEPTH_CONV, the whole of a part.
+    // ONCE_DEPTH_CONV.
     #[cycle(converted)]
     fn once_depth_conv(
         &self,
         library: &mut Library,
-        whole: &Conv,
-        part: &Conv,
+        deep: Deep,
         t: &Term,
         fuel: &mut Fuel,
     ) -> Answer
-        requires whole { conversion_of whole.now ≡ conversions.once_depth_conv (conversion_of part.now) }
+        requires whole { conversion_of deep.conv.now ≡ conversions.once_depth_conv (conversion_of deep.part.now) }
         requires asked { IsAsked (L.is_ready self.now.leaves.now) library.old t.now }
-        ensures converts { AnswersOver library.old (L.hosts self.now.leaves.now) self.now.depth fuel.old.left (stands_for (L.means self.now.leaves.now) whole.now) t.now result fuel.new.left }
+        ensures converts { AnswersOver library.old (L.hosts self.now.leaves.now) self.now.depth fuel.old.left
+            (stands_for (L.means self.now.leaves.now) deep.entry.conv.now) t.now result fuel.new.left }
         ensures makes { MakesAnswer library.old library.new t.now result }
     {
-        match self.converted(library, part, t, fuel) {
+        match self.converted(library, deep.part, t, fuel) {
             Ok(made) => Ok(made),
             Err(fault) => {
                 if !is_caught(&fault) {
                     return Err(fault);
                 }
-                let made = self.sub_conv(library, whole, t, fuel);
+                let made = self.sub_conv(library, deep.conv, t, fuel);
                 or_same(library, t, made, fuel)
             }
         }
     }
 
-    // TOP_DEPTH_CONV, the whole of a part, joined by TRANS from the right. No chain is begun where nothing below changes.
+    // TOP_DEPTH_CONV, joined by TRANS from the right. No chain is begun where nothing below changes.
     #[cycle(converted)]
-    fn top_depth_conv(
-        &self,
-        library: &mut Library,
-        whole: &Conv,
-        part: &Conv,
-        t: &Term,
-        fuel: &mut Fuel,
-    ) -> Answer
-        requires whole { conversion_of whole.now ≡ conversions.top_depth_conv (conversion_of part.now) }
+    fn top_depth_conv(&self, library: &mut Library, deep: Deep, t: &Term, fuel: &mut Fuel) -> Answer
+        requires whole { conversion_of deep.conv.now ≡ conversions.top_depth_conv (conversion_of deep.part.now) }
         requires asked { IsAsked (L.is_ready self.now.leaves.now) library.old t.now }
-        ensures converts { AnswersOver library.old (L.hosts self.now.leaves.now) self.now.depth fuel.old.left (stands_for (L.means self.now.leaves.now) whole.now) t.now result fuel.new.left }
+        ensures converts { AnswersOver library.old (L.hosts self.now.leaves.now) self.now.depth fuel.old.left
+            (stands_for (L.means self.now.leaves.now) deep.entry.conv.now) t.now result fuel.new.left }
         ensures makes { MakesAnswer library.old library.new t.now result }
     {
-        let begun = self.repeatc(library, part, t, fuel)?;
+        let begun = self.repeatc(library, deep.part, t, fuel)?;
         let right = right_of(library, t, &begun);
-        let under = self.sub_conv(library, whole, right, fuel);
+        let under = self.sub_conv(library, deep.conv, right, fuel);
         let found = match changed(right, under) {
             Ok(found) => found,
             Err(fault) => {
@@ -343,41 +329,40 @@ impl<L: Leaves> Level<'_, L> {
             }
         };
         let chain = begin_twice(library, t, begun, found)?;
-        self.top_depth_on(library, whole, part, t, chain, fuel)
+        self.top_depth_on(library, deep, t, chain, fuel)
     }
 
-    // What TOP_DEPTH_CONV, the whole of a part, comes to on a term behind a chain from it, where something has changed below. It
-    // stands apart, since most terms begin no chain.
+    // What TOP_DEPTH_CONV comes to on a term behind a chain from it, where something has changed below. It stands apart, since
+    // most terms begin no chain.
     #[cycle(converted)]
     fn top_depth_on(
         &self,
         library: &mut Library,
-        whole: &Conv,
-        part: &Conv,
+        deep: Deep,
         t: &Term,
         chain: Chain,
         fuel: &mut Fuel,
     ) -> Answer
-        requires whole { conversion_of whole.now ≡ conversions.top_depth_conv (conversion_of part.now) }
+        requires whole { conversion_of deep.conv.now ≡ conversions.top_depth_conv (conversion_of deep.part.now) }
         requires asked { IsAsked (L.is_ready self.now.leaves.now) library.old t.now }
         requires chain { IsChainFrom library.old t.now chain }
-        ensures converts { AnswersBehind library.old (L.hosts self.now.leaves.now) self.now.depth (stands_for (L.means self.now.leaves.now) whole.now) t.now
-            (top_depth_again (stands_for (L.means self.now.leaves.now) part.now)) chain fuel.old.left result fuel.new.left }
+        ensures converts { AnswersBehind library.old (L.hosts self.now.leaves.now) self.now.depth (stands_for (L.means self.now.leaves.now) deep.entry.conv.now) t.now
+            (top_depth_again (stands_for (L.means self.now.leaves.now) deep.entry.part.now)) chain fuel.old.left result fuel.new.left }
         ensures makes { MakesAnswer library.old library.new t.now result }
     {
         let mut chain = chain;
         loop {
-            let again = self.converted(library, part, &chain.current, fuel);
+            let again = self.converted(library, deep.part, &chain.current, fuel);
             chain = match link(library, t, chain, again, fuel) {
                 Linked::GoesOn(chain) => chain,
                 Linked::Ends(result) => return result,
             };
-            let here = self.repeatc(library, part, &chain.current, fuel);
+            let here = self.repeatc(library, deep.part, &chain.current, fuel);
             chain = match link(library, t, chain, here, fuel) {
                 Linked::GoesOn(chain) => chain,
                 Linked::Ends(result) => return result,
             };
-            let below = self.sub_conv(library, whole, &chain.current, fuel);
+            let below = self.sub_conv(library, deep.conv, &chain.current, fuel);
             let below = changed(&chain.current, below);
             chain = match link(library, t, chain, below, fuel) {
                 Linked::GoesOn(chain) => chain,

@@ -12,5 +12,5 @@ mod walk;
 
 pub use follow::Follower;
 pub use hol_explain_hints::{Origin, origin_of};
-pub use hol_script::{Ended, Refused, converse, run};
+pub use hol_script::{Devices, Ended, Refused, converse, run};
 pub use walk::{Script, Walk, explain, explain_refusal};

@@ -6,6 +6,7 @@ ghost use Rattle.hol_model.specs.Goals.Replays.{is_within_depth};
 ghost use Rattle.hol_journal.specs.Journal.{Journal, IsMade};
 ghost use Rattle.hol_just.specs.Steps.{goal_of, step_of};
 ghost use Rattle.hol_just.specs.Growing.{grown_tree};
+ghost use Rattle.hol_combine.specs.Posed.{IsKept};
 ghost use Rattle.hol_goals.specs.Refinements.{goal_told, goal_in_focus, Refines};
 ghost use Rattle.hol_goals.specs.Stages.{attempt_of, state_of};
 ghost use Rattle.hol_goals.specs.Expansions.{Reaches, Finishes, IsExpandedBy};
@@ -87,11 +88,9 @@ impl Attempt {
         requires ready { P.is_ready prover.old }
         requires within { is_within_depth (grown_tree just.now) ≡ true }
         ensures outcome { Finishes (P.theory prover.old) (P.store prover.old) (goal_of self.old.goal) (grown_tree just.now) (attempt_of self.old) (attempt_of self.new) result }
-        ensures theory { P.theory prover.new ≡ P.theory prover.old }
+        ensures kept { IsKept (P.theory prover.old) (P.theory prover.new) (P.is_ready prover.new) (P.extends prover.old prover.new) }
         ensures store { P.store prover.new ≡ P.store prover.old }
-        ensures ready { P.is_ready prover.new }
         ensures stays { StaysMade (P.journal prover.old) (P.journal prover.new) }
-        ensures extends { P.extends prover.old prover.new }
         ensures made { IsAttemptMade (P.journal prover.old) self.old → IsAttemptMade (P.journal prover.new) self.new }
     {
         let whole = just.whole(alloc)?;
@@ -108,11 +107,9 @@ impl Attempt {
     ) -> Told
         requires ready { P.is_ready prover.old }
         ensures outcome { IsExpandedBy (P.theory prover.old) (P.store prover.old) (step_of refinement) (attempt_of self.old) (attempt_of self.new) result }
-        ensures theory { P.theory prover.new ≡ P.theory prover.old }
+        ensures kept { IsKept (P.theory prover.old) (P.theory prover.new) (P.is_ready prover.new) (P.extends prover.old prover.new) }
         ensures store { P.store prover.new ≡ P.store prover.old }
-        ensures ready { P.is_ready prover.new }
         ensures stays { StaysMade (P.journal prover.old) (P.journal prover.new) }
-        ensures extends { P.extends prover.old prover.new }
         ensures made { IsAttemptMade (P.journal prover.old) self.old → IsAttemptMade (P.journal prover.new) self.new }
     {
         let state = self.refined(alloc, refinement)?;

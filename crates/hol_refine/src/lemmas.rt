@@ -3,7 +3,7 @@ ghost use Rattle.std.specs.Prelude.{◌≡◌, Some, Ok, length, OnOk, OnErr, If
 ghost use Rattle.hol_model.specs.declared.fault.Fault.TheVariants.{Memory};
 ghost use Rattle.hol_model.specs.Terms.NamedTerm.{NamedTerm};
 ghost use Rattle.hol_model.specs.Kernel.Rules.{dest_equation};
-ghost use Rattle.hol_model.specs.Goals.Replays.{with_lemma, IsKnownGoal, IsProvedOver};
+ghost use Rattle.hol_model.specs.Goals.Replays.{with_lemma, IsKnownGoal};
 ghost use Rattle.hol_model.specs.Refining.Refiners as refiners;
 ghost use Rattle.hol_laws_refiners.specs.Laws.{IsEquationOf};
 ghost use Rattle.hol_just.specs.Steps.{goal_of};
@@ -35,14 +35,6 @@ fn add_lemma(library: &mut Library, theorem: Rec) -> Result<(), Fault>
         Ok(_) => Ok(()),
         Err(fault) => Err(fault),
     }
-}
-
-// A theorem that the recorder made is one of its theory, or of an earlier state of it. Nothing is computed.
-fn made_is_proved(library: &Library, theorem: &Rec)
-    requires { IsMade library.now.recorder theorem.now }
-    ensures { IsProvedOver library.now.recorder.theory theorem.now.theorem }
-{
-    let _hypotheses = theorem.theorem().hyps();
 }
 
 // The step by an equation of the goal's target, which is to be the next lemma. Refused: Memory.
@@ -77,7 +69,6 @@ pub(crate) fn by_equation(library: &mut Library, goal: &Goal, theorem: Rec) -> R
     ensures library { IsLibrary library.new }
     ensures extended { IsExtended library.old library.new }
 {
-    made_is_proved(library, &theorem);
     library.recorder.theory_is_legal();
     if !are_assumed(theorem.theorem().hyps(), goal) {
         return Err(Fault::RefineFails);
@@ -95,7 +86,7 @@ pub(crate) fn by_theorem(library: &mut Library, theorem: Rec) -> Result<Step, Fa
     ensures library { IsLibrary library.new }
     ensures extended { IsExtended library.old library.new }
 {
-    made_is_proved(library, &theorem);
+    let _hypotheses = theorem.theorem().hyps();
     let step = step_by_theorem(library)?;
     add_lemma(library, theorem)?;
     Ok(step)

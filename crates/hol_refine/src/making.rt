@@ -11,7 +11,7 @@ ghost use Rattle.hol_just.specs.Steps.{tree_of, goal_of};
 ghost use Rattle.hol_refine.specs.TableAnswers.{step_in, IsGoal, AnswersStep, Makes, MakesBoth, MakesOver, is_shallow};
 ghost use Rattle.hol_refine.specs.Rows.{two_targets};
 
-use hol_just::{Goal, Just, Rule, Step, named, step, sub};
+use hol_just::{Goal, Just, Rule, Step, lemma, named, step, sub};
 use hol_model::Fault;
 use hol_terms::Term;
 use std::alloc::Global;
@@ -116,6 +116,13 @@ pub(crate) fn stored_theorem(alloc: Global, name: &str) -> Result<Just, Fault>
     ensures { Makes result (trees.named name.now) }
 {
     named(alloc, name)
+}
+
+/// The lemma of this number.
+pub(crate) fn stored_lemma(alloc: Global, number: usize) -> Result<Just, Fault>
+    ensures { Makes result (trees.lemma number) }
+{
+    lemma(alloc, number)
 }
 
 /// What DISJ_CASES draws from a stored theorem and both subgoals.

@@ -1,6 +1,5 @@
 // The theorems of names.
-ghost use Rattle.std.specs.Prelude.{◌≡◌, ◌∷◌, ◌++◌, [], Some, map, IfOk, IfErr, OnOk, string_bytes};
-ghost use Rattle.hol_model.specs.declared.fault.Fault.TheVariants.{Memory};
+ghost use Rattle.std.specs.Prelude.{◌≡◌, Some, map, IfOk, IfErr, string_bytes};
 ghost use Rattle.hol_model.specs.Refining.Refiners as refiners;
 ghost use Rattle.hol_journal.specs.Journal.{Journal};
 ghost use Rattle.hol_prelude_derivations.specs.Derivations.{AreMade, theorems};
@@ -12,15 +11,6 @@ use hol_journal::Rec;
 use hol_model::Fault;
 use hol_theorem_store::Store;
 use std::alloc::Global;
-
-// One theorem more.
-fn add_copy(alloc: Global, all: &mut Vec<Rec>, theorem: &Rec) -> Result<(), Fault>
-    ensures ok { OnOk result (all.new.items ≡ all.old.items ++ theorem.now ∷ []) }
-    ensures err { IfErr result (λ fault. fault ≡ Memory) }
-{
-    all.push(theorem.copy(alloc)?)?;
-    Ok(())
-}
 
 /// The stored theorems of the names, in order. Refused: UnknownName where a name stands for none; Memory.
 pub(crate) fn theorems_named(
@@ -38,7 +28,7 @@ pub(crate) fn theorems_named(
             Some(theorem) => theorem,
             None => return Err(Fault::UnknownName),
         };
-        add_copy(alloc, &mut all, theorem)?;
+        all.push(theorem.copy(alloc)?)?;
     }
     Ok(all)
 }

@@ -1,10 +1,6 @@
 // Refining by a refiner without parts.
-ghost use Rattle.std.specs.Prelude.{◌≡◌, true};
 ghost use Rattle.hol_model.specs.Goals.Replays.{IsKnownGoal};
-ghost use Rattle.hol_model.specs.Refining.Refiners as refiners;
-ghost use Rattle.hol_tactic_exprs.specs.Expressions.{leaf_of};
 ghost use Rattle.hol_just.specs.Steps.{goal_of};
-ghost use Rattle.hol_refine.specs.TableAnswers.{step_in, AnswersLeaf};
 ghost use Rattle.hol_combine.specs.Answers.{LeafRefines};
 ghost use Rattle.hol_theorem_library.specs.Library.{IsLibrary, store_in};
 ghost use Rattle.hol_refine.specs.Growth.{IsExtended};
@@ -19,17 +15,6 @@ use hol_model::Fault;
 use hol_tactic_exprs::{Fuel, Leaf};
 use hol_terms::Term;
 use hol_theorem_library::Library;
-
-// By a refiner of the table.
-fn by_table(library: &Library, leaf: &Leaf<Term>, goal: &Goal) -> Result<Step, Fault>
-    requires table { refiners.is_in_table (leaf_of leaf.now) ≡ true }
-    requires known { IsKnownGoal library.now.recorder.theory (goal_of goal.now) }
-    ensures { AnswersLeaf library.now.recorder.theory (store_in library.now) (leaf_of leaf.now) (goal_of goal.now) (step_in result) }
-{
-    let alloc = library.recorder.alloc();
-    library.recorder.theory_is_legal();
-    leaf_step(alloc, library.recorder.theory(), &library.store, leaf, goal)
-}
 
 /// Refines a known goal by a refiner without parts: a step is spent, and then the answer is one that the refiner may have
 /// (hol_model, Combinators). The theorem of CONV_TAC, REWRITE_TAC and TAUT_TAC is one more lemma where they answer a step, and
@@ -59,6 +44,15 @@ pub fn refine<H: Refiners, C: Conversions>(
         Leaf::Conv(conv) => conv_tac(library, conversions, hosts, conv, goal, fuel),
         Leaf::Rewrite(names) => rewrite_tac(library, conversions, hosts, names, goal, fuel),
         Leaf::Taut => taut_tac(library, goal),
-        _ => by_table(library, leaf, goal),
+        _ => {
+            library.recorder.theory_is_legal();
+            leaf_step(
+                library.recorder.alloc(),
+                library.recorder.theory(),
+                &library.store,
+                leaf,
+                goal,
+            )
+        }
     }
 }

@@ -13,6 +13,7 @@ use hol_journal::Rec;
 use hol_model::Fault;
 use hol_rewrite::rules_of;
 use hol_theorem_library::{Library, libraries_continue};
+use std::alloc::Global;
 
 // The rules of a theorem, in order. Refused as `rules_of`.
 fn rules_of_one(library: &mut Library, theorem: &Rec) -> Result<Vec<Rec>, Fault>
@@ -38,7 +39,7 @@ fn add_rules(rules: &mut Vec<Rec>, mut more: Vec<Rec>) -> Result<(), Fault>
 }
 
 // The rules of the theorems, in order. Refused as `rules_of` of the first for which it is refused.
-fn rules_of_all(library: &mut Library, all: &[Rec]) -> Result<Vec<Rec>, Fault>
+fn rules_of_all(alloc: Global, library: &mut Library, all: &[Rec]) -> Result<Vec<Rec>, Fault>
     requires library { IsLibrary library.old }
     requires made { AreMade library.old.recorder all.now }
     ensures library { IsLibrary library.new }
@@ -47,7 +48,6 @@ fn rules_of_all(library: &mut Library, all: &[Rec]) -> Result<Vec<Rec>, Fault>
     ensures ok { IfOk result (λ rules. AnswersAllRules (theorems all.now) (Ok (theorems rules.items))) }
     ensures err { IfErr result (λ fault. (fault ≡ Memory) ⊎ AnswersAllRules (theorems all.now) (Err fault)) }
 {
-    let alloc = library.recorder.alloc();
     let mut rules = Vec::new(alloc);
     for theorem in all {
         let more = rules_of_one(library, theorem)?;
@@ -68,7 +68,7 @@ pub(crate) fn rules_named(library: &mut Library, names: &[String]) -> Result<Vec
 {
     let alloc = library.recorder.alloc();
     let theorems = theorems_named(alloc, &library.store, names)?;
-    match rules_of_all(library, &theorems) {
+    match rules_of_all(alloc, library, &theorems) {
         Ok(rules) => Ok(rules),
         Err(fault) => Err(fault),
     }

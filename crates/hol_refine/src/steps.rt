@@ -9,8 +9,8 @@ ghost use Rattle.hol_model.specs.Refining.Refiners.{converted, proved_by_lemma, 
 ghost use Rattle.hol_just.specs.Steps.{goal_of};
 ghost use Rattle.hol_refine.specs.TableAnswers.{step_in, AnswersStep, Makes};
 
-use crate::making::{by_one, by_two, closed, to_target};
-use hol_just::{Goal, Just, Rule, Step, lemma, sub};
+use crate::making::{closed, from_one, from_two, stored_lemma, subgoal, to_target};
+use hol_just::{Goal, Just, Rule, Step};
 use hol_model::Fault;
 use hol_terms::{Parts, Term};
 use std::alloc::Global;
@@ -29,25 +29,21 @@ fn is_truth(term: &Term) -> bool
 fn by_truth(alloc: Global, number: usize) -> Result<Just, Fault>
     ensures { Makes result (by_rule rules.EqtElim (one_part (trees.lemma number))) }
 {
-    let equation = lemma(alloc, number)?;
-    by_one(alloc, Rule::EqtElim, equation)
+    from_one(alloc, Rule::EqtElim, stored_lemma(alloc, number))
 }
 
 // `q <=> p`, from the lemma `p <=> q`.
 fn turned(alloc: Global, number: usize) -> Result<Just, Fault>
     ensures { Makes result (by_rule rules.Sym (one_part (trees.lemma number))) }
 {
-    let equation = lemma(alloc, number)?;
-    by_one(alloc, Rule::Sym, equation)
+    from_one(alloc, Rule::Sym, stored_lemma(alloc, number))
 }
 
 // `p`, from the lemma `p <=> q` and the subgoal `q`.
 fn by_equation(alloc: Global, number: usize) -> Result<Just, Fault>
     ensures { Makes result (by_rule rules.EqMp (two_parts (by_rule rules.Sym (one_part (trees.lemma number))) from_first)) }
 {
-    let equation = turned(alloc, number)?;
-    let first = sub(alloc, 0)?;
-    by_two(alloc, Rule::EqMp, equation, first)
+    from_two(alloc, Rule::EqMp, turned(alloc, number), subgoal(alloc, 0))
 }
 
 // A step that closes the goal by the lemma `p <=> T`.
@@ -87,6 +83,6 @@ pub(crate) fn converted(
 pub(crate) fn proved(alloc: Global, number: usize) -> Result<Step, Fault>
     ensures { AnswersStep (Ok (proved_by_lemma number)) (step_in result) }
 {
-    let just = lemma(alloc, number)?;
+    let just = stored_lemma(alloc, number)?;
     closed(alloc, just)
 }

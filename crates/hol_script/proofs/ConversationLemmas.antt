@@ -10,7 +10,7 @@ use Rattle.hol_model.specs.declared.limits.TheConstants.{TEXT_BYTES_LIMIT}
 use Rattle.hol_model_sessions.specs.Script.{has_mark}
 use Rattle.hol_model_sessions.specs.ScriptSessions.{State, Tools, text_of_turns}
 use Rattle.hol_model_sessions.specs.Runs.{Counts, SourceUse, SinkUse}
-use Rattle.hol_script.specs.Runs.{Breaks, TellsFront, devices, source_use}
+use Rattle.hol_script.specs.Runs.{Breaks, TellsFront, devices_used, source_use}
 use Rattle.hol_script.specs.RunLogs.{IsLogOver}
 use Rattle.hol_script.specs.Courses.{IsUnderwayAt, BreaksAnswers, BreaksTold, StopsEarly, StopsTold, reads_no_more, breaks_in_answer, breaks_at_end}
 use Rattle.hol_script.specs.Conversations.{TellsFirst, StopsBehind, Closes, in_input, in_answer, in_last_answer}
@@ -106,7 +106,7 @@ module _ (tools : Tools) where
   module _ (source : SourceUse) (left : Option (List ℕ)) (out log : SinkUse) where
     -- what was to be written was not written whole
     pub closes-early : {wants_log : Bool} (fault : Fault) → StopsEarly tools source left out.before out.after out.has_failed fault → log.IsUntouched
-        → Closes tools IsLogOver (devices source out log) left (Err fault) wants_log
+        → Closes tools IsLogOver (devices_used source out log) left (Err fault) wants_log
     closes-early fault (reads_no_more s) untouched =
         in_input (record { read = s.read; turns = s.turns; fault = fault; answers = refl; answers_read = s.answers_read; stops = s.stops; wrote = s.wrote; log = untouched })
     closes-early fault (breaks_in_answer is failed b) untouched = in_answer (record {

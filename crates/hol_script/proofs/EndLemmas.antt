@@ -11,7 +11,7 @@ use Rattle.hol_device_io.specs.Bytes.{AppendsFront}
 use Rattle.hol_script_manager.specs.Managers.{state_of}
 use Rattle.hol_script.specs.declared.progress.Progress.{Progress}
 use Rattle.hol_script_manager.specs.Session.{IsAcceptedLog, IsLongLog}
-use Rattle.hol_script.specs.Runs.{counts_of, names_of, if_logged, Finishes, Breaks, devices}
+use Rattle.hol_script.specs.Runs.{counts_of, names_of, if_logged, Finishes, Breaks, devices_used}
 use Rattle.hol_script.specs.Conversations.{EndsWhole, without_log, in_written_log, with_log, unasked}
 use Rattle.hol_script.specs.RunLogs.{IsLogOver, WritesLog, WritesFront, Logs, claims_listed, journal_of}
 use Rattle.hol_script.proofs.RunLogLemmas.{over-end, short-over, long-over}
@@ -25,10 +25,10 @@ breaks_off sink text front failed = record { front = front.front; rest = front.r
 
 module _ (tools : Tools) (source : SourceUse) (out log : SinkUse) where
   abbrev EndsSo : Result Counts Fault → Bool → Type 0
-  EndsSo answer wants_log = Ends tools IsLogOver (devices source out log) answer wants_log
+  EndsSo answer wants_log = Ends tools IsLogOver (devices_used source out log) answer wants_log
 
   abbrev EndsWholeSo : Result Counts Fault → Bool → Type 0
-  EndsWholeSo answer wants_log = EndsWhole tools IsLogOver (devices source out log) answer wants_log
+  EndsWholeSo answer wants_log = EndsWhole tools IsLogOver (devices_used source out log) answer wants_log
 
   -- a run whose output is whole ends as a run
   ends-as_run : {answer : Result Counts Fault} {wants_log : Bool} → EndsWholeSo answer wants_log → EndsSo answer wants_log
@@ -76,7 +76,7 @@ module _ (tools : Tools) (source : SourceUse) (out log : SinkUse) where
     module _ (progress : Progress) (f : Finishes tools script out.before out.after (counts_of progress.summary) (names_of progress) (state_of progress.manager)) where
       -- ---- the output is whole
 
-      whole : IsWhole tools (devices source out log) f.turns
+      whole : IsWhole tools (devices_used source out log) f.turns
       whole = record { script = script; read = read; within_limit = within_limit; is_run = f.is_run; wrote = f.wrote }
 
       counted : ◌≡◌ {A = Result Counts Fault} (Ok (counts_of progress.summary)) (Ok (counts_after no_counts f.turns))

@@ -3,3 +3,4 @@ pub mod RunLogs
 pub mod Managers
 pub mod Conversations
 pub mod Courses
+pub mod Endings

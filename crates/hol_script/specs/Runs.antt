@@ -89,5 +89,5 @@ source_use told has_failed = record { told = told; has_failed = has_failed }
 abbrev pub sink_use : Option (List ℕ) → Option (List ℕ) → Bool → Type 0 → SinkUse
 sink_use before after has_failed IsUntouched = record { before = before; after = after; has_failed = has_failed; IsUntouched = IsUntouched }
 
-abbrev pub devices : SourceUse → SinkUse → SinkUse → Devices
-devices script out log = record { script = script; out = out; log = log }
+abbrev pub devices_used : SourceUse → SinkUse → SinkUse → Devices
+devices_used script out log = record { script = script; out = out; log = log }

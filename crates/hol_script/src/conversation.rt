@@ -1,17 +1,18 @@
 // Reads a script as it comes, and answers each command before it reads on.
-ghost use Rattle.std.specs.Prelude.{◌≡◌, [], true, false, OnOk, OnErr, IfOk, IfErr, IsErrOf};
-ghost use Rattle.hol_model.specs.declared.fault.Fault.TheVariants.{ReadFault, WriteFault};
+ghost use Rattle.std.specs.Prelude.{◌≡◌, [], false, OnOk, OnErr, IfOk, IfErr};
 ghost use Rattle.hol_model.specs.Texts.KnownText.{Tells};
 ghost use Rattle.hol_model_sessions.specs.Script.{has_mark};
 ghost use Rattle.hol_model_sessions.specs.Walking.{TellsWalk};
 ghost use Rattle.hol_script_manager.specs.Managers.{IsManager};
 ghost use Rattle.hol_script_manager.specs.Session.{session_tools};
-ghost use Rattle.hol_script.specs.Runs.{TellsFront, Leaves, answer_of, source_use, sink_use, devices};
-ghost use Rattle.hol_script.specs.RunLogs.{claims_listed, journal_of, IsLogOver, Logs};
+ghost use Rattle.hol_script.specs.Runs.{TellsFront, answer_of, source_use, sink_use, devices_used};
+ghost use Rattle.hol_script.specs.RunLogs.{IsLogOver};
 ghost use Rattle.hol_script.specs.Courses.{IsBegun, IsWithin, IsUnderway, StopsTold, IsReadWhole};
 ghost use Rattle.hol_script.specs.Conversations.{Closes};
+ghost use Rattle.hol_script.specs.Endings.{TellsFailures, LeavesSession};
 
 use crate::course::Course;
+use crate::devices::Devices;
 use crate::ended::Ended;
 use crate::progress::Progress;
 use crate::runner::write_log;
@@ -85,41 +86,35 @@ fn answer_input<R: Source, W: Sink, H: Refiners>(
 /// of it before it reads on. At the end of the input the bytes that no `;;` follows are treated as `run` treats them, and then the
 /// log is written, where one is wanted.
 ///
-/// On Ok all is as `run` says of all the bytes that were read (`closes`, `told`, `leaves`, `own_log`). On Err what was written is a
-/// front of that (`told_front`). ReadFault (the source failed), TooLong (the bytes are longer than the limit on texts) and Memory
+/// On Ok all is as `run` says of all the bytes that were read (`closes`, `told`, `session`). On Err what was written is a front of
+/// that (`told_front`). ReadFault (the source failed), TooLong (the bytes are longer than the limit on texts) and Memory
 /// come behind the answers to the commands whose `;;` was read, and these are whole: a source that fails may do so at any call, so
 /// at each call all commands that it has given are answered. WriteFault: the writer failed, within these answers or in the last
 /// one. The log is written at the end alone, and refused as by `run`.
 pub fn converse<R: Source, W: Sink, L: Sink, H: Refiners>(
     alloc: Global,
-    reader: &mut R,
-    writer: &mut W,
-    log: &mut L,
-    wants_log: bool,
+    devices: &mut Devices<R, W, L>,
     host: &H,
 ) -> Result<Ended, Fault>
-    requires reader_unfailed { R.has_failed reader.old ≡ false }
-    requires writer_unfailed { W.has_failed writer.old ≡ false }
-    requires log_unfailed { L.has_failed log.old ≡ false }
+    requires { (R.has_failed devices.old.reader ≡ false) × (W.has_failed devices.old.writer ≡ false) × (L.has_failed devices.old.log ≡ false) }
     ensures closes { Closes (session_tools (H.refiners host.now) (H.conversions host.now)) IsLogOver
-        (devices (source_use (R.remaining reader.old) (R.has_failed reader.new))
-        (sink_use (W.contents writer.old) (W.contents writer.new) (W.has_failed writer.new) (writer.new ≡ writer.old))
-        (sink_use (L.contents log.old) (L.contents log.new) (L.has_failed log.new) (log.new ≡ log.old)))
-        (R.remaining reader.new) (answer_of result) wants_log }
-    ensures told { OnOk result (TellsWalk (R.remaining reader.old) (W.contents writer.old) (W.contents writer.new) []) }
-    ensures told_front { OnErr result (TellsFront (R.remaining reader.old) (W.contents writer.old) (W.contents writer.new)) }
-    ensures reader_unfailed { OnOk result (R.has_failed reader.new ≡ false) }
-    ensures writer_unfailed { OnOk result (W.has_failed writer.new ≡ false) }
-    ensures log_unfailed { IfOk result (λ ended. OnOk ended.logged (L.has_failed log.new ≡ false)) }
-    ensures reader_told { R.has_failed reader.new ≡ true → IsErrOf result ReadFault }
-    ensures writer_told { W.has_failed writer.new ≡ true → IsErrOf result WriteFault }
-    ensures log_told { L.has_failed log.new ≡ true → IsErrOf (answer_of result) WriteFault }
-    ensures own_log { wants_log ≡ true → IfOk result (λ ended. Logs (journal_of ended.progress) (claims_listed ended.progress) (L.contents log.old) (L.contents log.new) ended.logged) }
-    ensures leaves { IfOk result (λ ended. Leaves (session_tools (H.refiners host.now) (H.conversions host.now)) (R.remaining reader.old) (W.contents writer.old) (W.contents writer.new)
-        ended.progress) }
-    ensures manager { IfOk result (λ ended. IsManager ended.progress.manager) }
+        (devices_used (source_use (R.remaining devices.old.reader) (R.has_failed devices.new.reader))
+        (sink_use (W.contents devices.old.writer) (W.contents devices.new.writer) (W.has_failed devices.new.writer) (devices.new.writer ≡ devices.old.writer))
+        (sink_use (L.contents devices.old.log) (L.contents devices.new.log) (L.has_failed devices.new.log) (devices.new.log ≡ devices.old.log)))
+        (R.remaining devices.new.reader) (answer_of result) devices.old.wants_log }
+    ensures told { OnOk result (TellsWalk (R.remaining devices.old.reader) (W.contents devices.old.writer) (W.contents devices.new.writer) []) }
+    ensures told_front { OnErr result (TellsFront (R.remaining devices.old.reader) (W.contents devices.old.writer) (W.contents devices.new.writer)) }
+    ensures failures { TellsFailures (R.has_failed devices.new.reader) (W.has_failed devices.new.writer) (L.has_failed devices.new.log) result }
+    ensures session { LeavesSession (session_tools (H.refiners host.now) (H.conversions host.now)) (R.remaining devices.old.reader)
+        (W.contents devices.old.writer) (W.contents devices.new.writer) (L.contents devices.old.log) (L.contents devices.new.log) devices.old.wants_log result }
 {
-    let progress = answer_input(alloc, reader, writer, wants_log, host)?;
-    let logged = write_log(alloc, &progress, log, wants_log);
+    let progress = answer_input(
+        alloc,
+        &mut devices.reader,
+        &mut devices.writer,
+        devices.wants_log,
+        host,
+    )?;
+    let logged = write_log(alloc, &progress, &mut devices.log, devices.wants_log);
     Ok(Ended { progress, logged })
 }

@@ -1,5 +1,6 @@
 // Scripts that stand in files, run to standard output. At this edge of a program nothing is claimed: what is written is told on `run`.
 
+use crate::devices::Devices;
 use crate::progress::Progress;
 use crate::runner::run;
 use hol_device_adapters::{FromCall, IntoCall, IntoWrite};
@@ -18,14 +19,12 @@ pub fn run_file<H: Refiners>(rt: &HostRuntime, name: &str, host: &H) -> Result<P
     let reads = Box::new(alloc, move |buf: &mut [u8]| script.read(buf))?;
     let mut output = rt.stdout();
     let writes = Box::new(alloc, move |piece: &[u8]| output.write(piece))?;
-    let mut no_log = IntoWrite::new(Vec::new(alloc));
-    let ended = run(
-        alloc,
-        &mut FromCall::new(reads),
-        &mut IntoCall::new(writes),
-        &mut no_log,
-        false,
-        host,
-    )?;
+    let mut devices = Devices {
+        reader: FromCall::new(reads),
+        writer: IntoCall::new(writes),
+        log: IntoWrite::new(Vec::new(alloc)),
+        wants_log: false,
+    };
+    let ended = run(alloc, &mut devices, host)?;
     ended.whole()
 }

@@ -3,6 +3,7 @@
 
 mod conversation;
 mod course;
+mod devices;
 mod ended;
 pub mod execute;
 mod files;
@@ -11,6 +12,7 @@ mod runner;
 mod writing;
 
 pub use conversation::converse;
+pub use devices::Devices;
 pub use ended::Ended;
 pub use files::run_file;
 pub use hol_script_manager::{Manager, Printed, Refused};

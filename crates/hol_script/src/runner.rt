@@ -2,14 +2,16 @@
 ghost use Rattle.std.specs.Prelude.{◌≡◌, ◌⊎◌, ◌≤◌, ◌∷◌, [], true, false, length, OnOk, OnErr, IfOk, IfErr, IsErrOf, Contains};
 ghost use Rattle.hol_model_sessions.specs.Walking.{TellsWalk};
 ghost use Rattle.hol_model_sessions.specs.Runs.{Ends};
-ghost use Rattle.hol_model.specs.declared.fault.Fault.TheVariants.{Memory, ReadFault, WriteFault, TooLong};
+ghost use Rattle.hol_model.specs.declared.fault.Fault.TheVariants.{Memory, WriteFault, TooLong};
 ghost use Rattle.hol_journal_log.specs.Pruning.{HaveIdentifiers};
 ghost use Rattle.hol_script_manager.specs.Session.{session_tools, IsLongLog};
 ghost use Rattle.hol_script_manager.specs.Managers.{state_of, IsManager};
-ghost use Rattle.hol_script.specs.Runs.{TellsFront, counts_of, names_of, Finishes, Breaks, Leaves, answer_of, source_use, sink_use, devices};
-ghost use Rattle.hol_script.specs.RunLogs.{claims_stored, claims_listed, journal_of, IsLogOver, WritesLog, WritesFront, Logs};
+ghost use Rattle.hol_script.specs.Runs.{TellsFront, counts_of, names_of, Finishes, Breaks, answer_of, source_use, sink_use, devices_used};
+ghost use Rattle.hol_script.specs.RunLogs.{claims_stored, claims_listed, journal_of, IsLogOver, WritesLog, WritesFront};
+ghost use Rattle.hol_script.specs.Endings.{TellsFailures, LeavesSession};
 
 use crate::course::Course;
+use crate::devices::Devices;
 use crate::ended::Ended;
 use crate::progress::Progress;
 use hol_device_io::{read_all, write_all};
@@ -85,8 +87,8 @@ pub(crate) fn write_log<L: Sink>(
 ///
 /// Where a log is wanted, it is written after the last command: the pruned log of the theorems that were printed, from the
 /// journal of the session that the run left, which is accepted, with a claim for each line of a theorem, in order. Where none is
-/// wanted, `log` is left alone. The answer is the session as the run left it (`leaves`), with what it counted, and what became of
-/// the log (`own_log`).
+/// wanted, its sink is left alone. The answer is the session as the run left it, with what it counted, and what became of the log
+/// (`session`).
 ///
 /// ReadFault and TooLong come before anything is written: the source failed, or the script is longer than the limit on
 /// texts. Memory comes while the script is read, or while the session is begun and the theorems of the prelude are made: a
@@ -94,35 +96,23 @@ pub(crate) fn write_log<L: Sink>(
 /// written, Memory where it finds no memory and TooLong where it is longer than the limit; WriteFault where its sink failed.
 pub fn run<R: Source, W: Sink, L: Sink, H: Refiners>(
     alloc: Global,
-    reader: &mut R,
-    writer: &mut W,
-    log: &mut L,
-    wants_log: bool,
+    devices: &mut Devices<R, W, L>,
     host: &H,
 ) -> Result<Ended, Fault>
-    requires reader_unfailed { R.has_failed reader.old ≡ false }
-    requires writer_unfailed { W.has_failed writer.old ≡ false }
-    requires log_unfailed { L.has_failed log.old ≡ false }
+    requires { (R.has_failed devices.old.reader ≡ false) × (W.has_failed devices.old.writer ≡ false) × (L.has_failed devices.old.log ≡ false) }
     ensures ends { Ends (session_tools (H.refiners host.now) (H.conversions host.now)) IsLogOver
-        (devices (source_use (R.remaining reader.old) (R.has_failed reader.new))
-        (sink_use (W.contents writer.old) (W.contents writer.new) (W.has_failed writer.new) (writer.new ≡ writer.old))
-        (sink_use (L.contents log.old) (L.contents log.new) (L.has_failed log.new) (log.new ≡ log.old)))
-        (answer_of result) wants_log }
-    ensures told { OnOk result (TellsWalk (R.remaining reader.old) (W.contents writer.old) (W.contents writer.new) []) }
-    ensures told_front { OnErr result (TellsFront (R.remaining reader.old) (W.contents writer.old) (W.contents writer.new)) }
-    ensures reader_unfailed { OnOk result (R.has_failed reader.new ≡ false) }
-    ensures writer_unfailed { OnOk result (W.has_failed writer.new ≡ false) }
-    ensures log_unfailed { IfOk result (λ ended. OnOk ended.logged (L.has_failed log.new ≡ false)) }
-    ensures reader_told { R.has_failed reader.new ≡ true → IsErrOf result ReadFault }
-    ensures writer_told { W.has_failed writer.new ≡ true → IsErrOf result WriteFault }
-    ensures log_told { L.has_failed log.new ≡ true → IsErrOf (answer_of result) WriteFault }
-    ensures own_log { wants_log ≡ true → IfOk result (λ ended. Logs (journal_of ended.progress) (claims_listed ended.progress) (L.contents log.old) (L.contents log.new) ended.logged) }
-    ensures leaves { IfOk result (λ ended. Leaves (session_tools (H.refiners host.now) (H.conversions host.now)) (R.remaining reader.old) (W.contents writer.old) (W.contents writer.new)
-        ended.progress) }
-    ensures manager { IfOk result (λ ended. IsManager ended.progress.manager) }
+        (devices_used (source_use (R.remaining devices.old.reader) (R.has_failed devices.new.reader))
+        (sink_use (W.contents devices.old.writer) (W.contents devices.new.writer) (W.has_failed devices.new.writer) (devices.new.writer ≡ devices.old.writer))
+        (sink_use (L.contents devices.old.log) (L.contents devices.new.log) (L.has_failed devices.new.log) (devices.new.log ≡ devices.old.log)))
+        (answer_of result) devices.old.wants_log }
+    ensures told { OnOk result (TellsWalk (R.remaining devices.old.reader) (W.contents devices.old.writer) (W.contents devices.new.writer) []) }
+    ensures told_front { OnErr result (TellsFront (R.remaining devices.old.reader) (W.contents devices.old.writer) (W.contents devices.new.writer)) }
+    ensures failures { TellsFailures (R.has_failed devices.new.reader) (W.has_failed devices.new.writer) (L.has_failed devices.new.log) result }
+    ensures session { LeavesSession (session_tools (H.refiners host.now) (H.conversions host.now)) (R.remaining devices.old.reader)
+        (W.contents devices.old.writer) (W.contents devices.new.writer) (L.contents devices.old.log) (L.contents devices.new.log) devices.old.wants_log result }
 {
-    let script = read_all(alloc, reader)?;
-    let progress = run_script(alloc, script.as_slice(), writer, wants_log, host)?;
-    let logged = write_log(alloc, &progress, log, wants_log);
+    let script = read_all(alloc, &mut devices.reader)?;
+    let progress = run_script(alloc, &script, &mut devices.writer, devices.wants_log, host)?;
+    let logged = write_log(alloc, &progress, &mut devices.log, devices.wants_log);
     Ok(Ended { progress, logged })
 }

@@ -12,9 +12,6 @@ ghost use Rattle.hol_script_inference.specs.Answers.{session_tools};
 ghost use Rattle.hol_script_commands.specs.Views.{IsCommand};
 ghost use Rattle.hol_tactic_grammar.specs.Tactics.{IsExpression};
 ghost use Rattle.hol_tactic_grammar.specs.Reading.{IsOfTree};
-ghost use Rattle.hol_model.specs.Kernel.Theorem.{Theorem};
-ghost use Rattle.hol_model.specs.Goals.GoalStates.{top_outcome};
-ghost use Rattle.hol_model_sessions.specs.ScriptSessions.{IsProved};
 ghost use Rattle.hol_model_sessions.specs.TacticGrammar.{Tactic};
 ghost use Rattle.hol_journal_log.specs.LogAccepted.{log_claim};
 ghost use Rattle.hol_journal_log.specs.Pruning.{HaveIdentifiers};
@@ -63,11 +60,13 @@ impl Manager {
         self.prover.session.library.recorder.forget();
     }
 
-    // A theorem that proves the goal is told by its text. Nothing is computed: the clause is the law.
-    fn top_is_proved(&self)
+    // The answer that shows the open goals. Refused: Memory.
+    fn shown(&self, alloc: Global) -> Result<Printed, Fault>
         requires { IsManager self.now }
-        ensures { (theorem : Theorem) → top_outcome (state_of self.now).proof ≡ Ok theorem → IsProved (state_of self.now) theorem }
+        ensures ok { IfOk result (ShowsGoals (state_of self.now)) }
+        ensures err { IfErr result (λ fault. fault ≡ Memory) }
     {
+        // Laws, for the proof that what is shown is told by its text: of the theorem that proves the goal, and of the open goals.
         sound();
         match self.stack.top_thm() {
             Ok(theorem) => self
@@ -79,15 +78,6 @@ impl Manager {
                 .well_formed(),
             Err(_) => {}
         }
-    }
-
-    // The answer that shows the open goals. Refused: Memory.
-    fn shown(&self, alloc: Global) -> Result<Printed, Fault>
-        requires { IsManager self.now }
-        ensures ok { IfOk result (ShowsGoals (state_of self.now)) }
-        ensures err { IfErr result (λ fault. fault ≡ Memory) }
-    {
-        self.top_is_proved();
         let goals = self.stack.open_goals();
         goals_are_well_formed(goals);
         let text = text_of_goals(alloc, &self.prover.session.scope, goals)?;

@@ -6,7 +6,7 @@ use crate::sinks::Kept;
 use hol_device_adapters::FromRead;
 use hol_host::Refiners;
 use hol_model::Fault;
-use hol_script::{Ended, run};
+use hol_script::{Devices, Ended, run};
 use std::alloc::Global;
 
 /// How a run has ended, and what it has written.
@@ -26,10 +26,14 @@ pub fn run_kept<H: Refiners>(
 ) -> Result<Ran, Fault>
     ensures { IfOk result (λ ran. IsManager ran.ended.progress.manager) }
 {
-    let mut reader = FromRead::new(script);
-    let mut writer = Kept::new(alloc);
-    let mut log = Kept::new(alloc);
-    let ended = run(alloc, &mut reader, &mut writer, &mut log, wants_log, host)?;
+    let mut devices = Devices {
+        reader: FromRead::new(script),
+        writer: Kept::new(alloc),
+        log: Kept::new(alloc),
+        wants_log,
+    };
+    let ended = run(alloc, &mut devices, host)?;
+    let Devices { writer, log, .. } = devices;
     Ok(Ran {
         ended,
         output: writer.bytes,

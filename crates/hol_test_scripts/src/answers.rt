@@ -38,7 +38,7 @@ pub(crate) enum Question {
 
 // What a run without a log leaves.
 fn left_by(alloc: Global, script: &[u8]) -> Left {
-    run_source(alloc, &mut FromRead::new(script), Setting::unlogged(false))
+    run_source(alloc, FromRead::new(script), Setting::unlogged(false))
 }
 
 // What a conversation without a log leaves.

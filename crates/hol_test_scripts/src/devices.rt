@@ -175,7 +175,7 @@ pub(crate) fn print_session(rt: &HostRuntime, turns: &str) -> anyhow::Result<()>
 
 // What a run of a script without an end is refused for, where it writes nothing.
 fn refusal_of_endless(alloc: Global) -> Option<Fault> {
-    let left = run_source(alloc, &mut Endless, Setting::logged(false));
+    let left = run_source(alloc, Endless, Setting::logged(false));
     if left.output.is_empty() && left.log.is_empty() {
         left.told.refusal
     } else {

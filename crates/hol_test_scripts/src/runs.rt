@@ -4,7 +4,7 @@ ghost use Rattle.std.specs.Prelude.{◌≡◌, false};
 use crate::counting::{conversions, refiners};
 use hol_host::Table;
 use hol_model::{Fault, Source};
-use hol_script::{Ended, Summary, converse, run};
+use hol_script::{Devices, Ended, Summary, converse, run};
 use hol_test_sample_devices::{Drips, Kept, run_kept};
 use hol_test_sample_host::SAMPLES;
 use std::alloc::Global;
@@ -77,17 +77,21 @@ fn told_of(answer: Result<Ended, Fault>) -> Told {
 }
 
 /// Runs the script of a source.
-pub(crate) fn run_source<R: Source>(alloc: Global, reader: &mut R, setting: Setting) -> Left
-    requires unfailed { R.has_failed reader.old ≡ false }
+pub(crate) fn run_source<R: Source + Drop>(alloc: Global, reader: R, setting: Setting) -> Left
+    requires unfailed { R.has_failed reader ≡ false }
 {
-    let mut writer = Kept::with_room(alloc, setting.output_room);
-    let mut log = Kept::with_room(alloc, setting.log_room);
-    let wants_log = setting.wants_log;
-    let answer = if setting.is_conversation {
-        converse(alloc, reader, &mut writer, &mut log, wants_log, &SAMPLES)
-    } else {
-        run(alloc, reader, &mut writer, &mut log, wants_log, &SAMPLES)
+    let mut devices = Devices {
+        reader,
+        writer: Kept::with_room(alloc, setting.output_room),
+        log: Kept::with_room(alloc, setting.log_room),
+        wants_log: setting.wants_log,
     };
+    let answer = if setting.is_conversation {
+        converse(alloc, &mut devices, &SAMPLES)
+    } else {
+        run(alloc, &mut devices, &SAMPLES)
+    };
+    let Devices { writer, log, .. } = devices;
     Left {
         told: told_of(answer),
         output: writer.bytes,
@@ -97,7 +101,7 @@ pub(crate) fn run_source<R: Source>(alloc: Global, reader: &mut R, setting: Sett
 
 /// Runs a script that is read byte by byte.
 pub(crate) fn run_dripping(alloc: Global, script: &[u8], setting: Setting) -> Left {
-    run_source(alloc, &mut Drips::new(script, setting.reads), setting)
+    run_source(alloc, Drips::new(script, setting.reads), setting)
 }
 
 /// What a script writes over a host that counts its calls.

@@ -9,7 +9,7 @@ use crate::output::Output;
 use crate::running::{create, refused_in};
 use crate::scripts::open_scripts;
 use hol_device_adapters::{IntoCall, IntoWrite};
-use hol_explain::converse;
+use hol_explain::{Devices, converse};
 use hol_model::{Fault, Sink};
 use holp_files::ScriptFile;
 use holp_goals::View;
@@ -23,15 +23,15 @@ const TERMINAL: &str = "input";
 
 // Converses over a feed with the host of the program, and answers how many of the commands were refused. Goals are laid out on
 // standard output, and messages written to standard error.
-fn converse_with<'a, 'b, L: Sink>(
+fn converse_with<'a, 'b, L: Sink + Drop>(
     rt: &'a HostRuntime,
     host_names: &'b [String],
     view: &'b RefCell<View>,
     feed: Feed<'a>,
-    log: &mut L,
+    log: L,
     wants_log: bool,
 ) -> Result<u64, Fault>
-    requires { L.has_failed log.old ≡ false }
+    requires { L.has_failed log ≡ false }
 {
     let host = host();
     let prompts = rt.stdin().is_terminal();
@@ -43,9 +43,14 @@ fn converse_with<'a, 'b, L: Sink>(
         };
         let _ = eprintln!(rt; "holp {VERSION}. Each command ends with `;;`. Ctrl-D ends{ending}.");
     }
-    let mut reader = Console::new(rt, &host, host_names, view, feed, prompts);
-    let mut writer = Output::new(rt, &[], Some(view));
-    let ended = converse(rt.alloc(), &mut reader, &mut writer, log, wants_log, &host);
+    let mut devices = Devices {
+        reader: Console::new(rt, &host, host_names, view, feed, prompts),
+        writer: Output::new(rt, &[], Some(view)),
+        log,
+        wants_log,
+    };
+    let ended = converse(rt.alloc(), &mut devices, &host);
+    let Devices { mut reader, .. } = devices;
     if ended.is_ok() {
         // What stands behind the last `;;` is explained.
         reader.end();
@@ -56,13 +61,13 @@ fn converse_with<'a, 'b, L: Sink>(
 }
 
 // The same, with the names of the host's functions, and a view that knows no declarations yet.
-fn converse_hosted<'a, L: Sink>(
+fn converse_hosted<'a, L: Sink + Drop>(
     rt: &'a HostRuntime,
     feed: Feed<'a>,
-    log: &mut L,
+    log: L,
     wants_log: bool,
 ) -> Result<u64, Fault>
-    requires { L.has_failed log.old ≡ false }
+    requires { L.has_failed log ≡ false }
 {
     let alloc = rt.alloc();
     let host_names = host_names(alloc)?;
@@ -74,7 +79,7 @@ fn converse_hosted<'a, L: Sink>(
 fn converse_logged<'a>(rt: &'a HostRuntime, feed: Feed<'a>, log: &str) -> Result<u64, Fault> {
     let mut file = create(rt, log)?;
     let logs = Box::new(rt.alloc(), move |piece: &[u8]| file.write(piece))?;
-    converse_hosted(rt, feed, &mut IntoCall::new(logs), true)
+    converse_hosted(rt, feed, IntoCall::new(logs), true)
 }
 
 /// Runs scripts, and then the commands that come on standard input, and answers how many were refused. Where a log is asked for, its
@@ -100,6 +105,6 @@ pub(crate) fn converse_over(
     let feed = Feed::new(&names, opened, Vec::new(alloc));
     match log {
         Some(log) => converse_logged(rt, feed, log),
-        None => converse_hosted(rt, feed, &mut IntoWrite::new(Vec::new(alloc)), false),
+        None => converse_hosted(rt, feed, IntoWrite::new(Vec::new(alloc)), false),
     }
 }

@@ -7,7 +7,7 @@ use crate::options::Options;
 use crate::output::Output;
 use crate::scripts::{Scripts, open_scripts, read_scripts};
 use hol_device_adapters::{FromRead, IntoCall, IntoWrite};
-use hol_explain::{Ended, Script, Walk, explain, run};
+use hol_explain::{Devices, Ended, Script, Walk, explain, run};
 use hol_model::{Fault, Sink};
 use holp_goals::View;
 use std::cell::RefCell;
@@ -53,25 +53,30 @@ pub(crate) fn refused_in(ended: Ended) -> Result<u64, Fault> {
 
 // Runs a script over the host of the program, and answers how many of its commands were refused. Where these are to be explained,
 // what is said of them, and noted of others, is written to standard error behind the run, and takes no part in how it ends.
-fn run_with<W: Sink, L: Sink>(
+fn run_with<W: Sink + Drop, L: Sink + Drop>(
     rt: &HostRuntime,
     script: &Script<'_>,
     options: Options,
-    writer: &mut W,
-    log: &mut L,
+    writer: W,
+    log: L,
     wants_log: bool,
 ) -> Result<u64, Fault>
-    requires writer_unfailed { W.has_failed writer.old ≡ false }
-    requires log_unfailed { L.has_failed log.old ≡ false }
+    requires writer_unfailed { W.has_failed writer ≡ false }
+    requires log_unfailed { L.has_failed log ≡ false }
 {
     let alloc = rt.alloc();
     let functions = host();
+    let mut devices = Devices {
+        reader: FromRead::new(script.text),
+        writer,
+        log,
+        wants_log,
+    };
     if options.tells_records {
         let walk = Walk::of_records(alloc, script, &functions);
-        return explain(&walk, writer);
+        return explain(&walk, &mut devices.writer);
     }
-    let mut reader = FromRead::new(script.text);
-    let ended = run(alloc, &mut reader, writer, log, wants_log, &functions)?;
+    let ended = run(alloc, &mut devices, &functions)?;
     if !options.explains {
         return refused_in(ended);
     }
@@ -85,14 +90,14 @@ fn run_with<W: Sink, L: Sink>(
 
 // Runs scripts as one, and answers how many of their commands were refused. Standard error tells where these stand, or, where it
 // is to explain them, why they were refused.
-fn run_over<L: Sink>(
+fn run_over<L: Sink + Drop>(
     rt: &HostRuntime,
     scripts: &Scripts<'_>,
     options: Options,
-    log: &mut L,
+    log: L,
     wants_log: bool,
 ) -> Result<u64, Fault>
-    requires { L.has_failed log.old ≡ false }
+    requires { L.has_failed log ≡ false }
 {
     let host_names = host_names(rt.alloc())?;
     let script = Script {
@@ -106,8 +111,8 @@ fn run_over<L: Sink>(
         None
     };
     let is_told = options.explains || options.tells_records;
-    let mut writer = Output::new(rt, scripts.told(is_told), view.as_ref());
-    run_with(rt, &script, options, &mut writer, log, wants_log)
+    let writer = Output::new(rt, scripts.told(is_told), view.as_ref());
+    run_with(rt, &script, options, writer, log, wants_log)
 }
 
 /// Runs scripts as one, and answers how many of their commands were refused. Where a log is asked for, its file is made once the
@@ -122,11 +127,11 @@ pub(crate) fn run_scripts(
     let opened = open_scripts(rt, names, options.explains)?;
     let Some(log) = log else {
         let scripts = read_scripts(rt, names, opened)?;
-        let mut no_log = IntoWrite::new(Vec::new(rt.alloc()));
-        return run_over(rt, &scripts, options, &mut no_log, false);
+        let no_log = IntoWrite::new(Vec::new(rt.alloc()));
+        return run_over(rt, &scripts, options, no_log, false);
     };
     let mut file = create(rt, log)?;
     let scripts = read_scripts(rt, names, opened)?;
     let logs = Box::new(rt.alloc(), move |piece: &[u8]| file.write(piece))?;
-    run_over(rt, &scripts, options, &mut IntoCall::new(logs), true)
+    run_over(rt, &scripts, options, IntoCall::new(logs), true)
 }

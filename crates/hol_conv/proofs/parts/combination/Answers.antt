@@ -7,4 +7,4 @@ pub returns-in_default-clause-err : goal.returns-in_default-clause-err
 returns-in_default-clause-err c = is_no_combination (search rules)
 
 pub returns-then-depth-ge-DESCENTS_LIMIT-clause-err : goal.returns-then-depth-ge-DESCENTS_LIMIT-clause-err
-returns-then-depth-ge-DESCENTS_LIMIT-clause-err c = deep-combination c.args.t.now (c.in-Some.parts.0.now, c.in-Some.parts.1.now) (search rules) (search rules)
+returns-then-depth-ge-DESCENTS_LIMIT-clause-err c = deep-combination c.args.t.now (c.in-Some.function.now, c.in-Some.argument.now) (search rules) (search rules)

@@ -1,4 +1,5 @@
-use Rattle.std.proofs.Common.{◌∙◌, sym}
+use Rattle.std.proofs.Common.{rules, ◌∙◌, sym}
+use Rattle.hol_model.specs.Goals.Replays.{IsProvedOver}
 use Rattle.hol_just.specs.Steps.{goal_of}
 use Rattle.hol_laws_refiners.proofs.Equations.{equations-of-targets}
 use Rattle.hol_refine.proofs.lemmas.by_equation.Goals as goal
@@ -6,7 +7,7 @@ use Rattle.hol_refine.proofs.lemmas.by_equation.Goals as goal
 pub returns-clause-outcome : goal.returns-clause-outcome
 returns-clause-outcome c =
     let held = sym c.are_assumed.ensures ∙ c.if-not-are_assumed.false in
-    let proved = c.made_is_proved.ensures in
+    let proved : IsProvedOver c.args.library.now.recorder.theory c.args.theorem.theorem = search rules in
     record {
       assumed = rw (c.hyps.ensures.value, c.theorem-2.ensures) at held;
       proved = proved;

@@ -12,7 +12,7 @@ pub loop-name-preserved : goal.loop-name-preserved
 loop-name-preserved c =
     let within : c.loop-name.name-index < length c.args.names.now = omega arith in
     let found = ap (stored_of c.args.store.now).theorems (sym c.as_str.ensures.value) ∙ sym c.in-Some.ensures.found in
-    rw c.in_ok-add_copy.ensures.ok (
+    rw (c.in_ok-push.ensures.items, c.in_ok-copy.ensures.ok) (
       next-named (stored_of c.args.store.now) string_bytes c.args.names.now c.loop-name.all.items c.loop-name.name-index c.name-item.result c.in-Some.theorem.now
           within c.name-item.is c.loop-name.invariant.0 found,
       λ journal is. one_more_made journal journal c.loop-name.all.items c.in-Some.theorem.now (same-grown journal) (c.loop-name.invariant.1 journal is) (c.in-Some.ensures.made journal is),

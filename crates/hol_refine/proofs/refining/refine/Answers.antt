@@ -56,9 +56,9 @@ returns-in_default-clause-outcome g c =
     let listed : refiners.is_in_table (leaf_of c.args.leaf.now) ≡ true = search rules in
     step-spent theory host
     (store_in c.args.library.now) (store_in c.args.library.now) c.args.fuel.now.left c.spend.new.self.left c.spend.new.self.left
-    (leaf_of c.args.leaf.now) (goal_of c.args.goal.now) c.by_table.result
+    (leaf_of c.args.leaf.now) (goal_of c.args.goal.now) c.leaf_step.result
     (rw c.if-not-spend.false at c.spend.ensures.spent)
-    (by-table theory host (store_in c.args.library.now) c.spend.new.self.left (leaf_of c.args.leaf.now) (goal_of c.args.goal.now) (step_in c.by_table.result) listed c.by_table.ensures)
+    (by-table theory host (store_in c.args.library.now) c.spend.new.self.left (leaf_of c.args.leaf.now) (goal_of c.args.goal.now) (step_in c.leaf_step.result) listed (rw c.theory.ensures at c.leaf_step.ensures))
 
 pub returns-in_default-clause-extended : goal.returns-in_default-clause-extended
 returns-in_default-clause-extended g c = extended-same c.args.library.now

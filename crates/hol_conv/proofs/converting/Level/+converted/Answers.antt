@@ -15,7 +15,7 @@ use Rattle.hol_conv.proofs.Sizes.{size, size_of, sizes_of, size_in}
 use Rattle.hol_conv.proofs.Expressions.{then_stands, or_else_stands, then_size, or_else_size, rest-drop}
 use Rattle.hol_conv.proofs.Choosing.{chooses_next, chooses_answer, chooses_stop, chooses_end}
 use Rattle.hol_conv.proofs.Chaining.{chain-later, on-side-answers, on-side-equation}
-use Rattle.hol_conv.proofs.Asking.{known-function, known-argument, of-argument, known-later, asks-now, asks-later, answers-after, still-answers, held-answer}
+use Rattle.hol_conv.proofs.Asking.{of-argument, known-later, asks-now, asks-later, answers-after, still-answers, held-answer}
 use Rattle.hol_conv.proofs.Asking.{side-later, equation-later, carried, carried-answer, carried-behind, continued-twice}
 use Rattle.hol_conv.proofs.Answering.{is-equation, reflects-leaf, first-part-refused, parts-too-deep, rand-refused, rator-refused, abs-refused}
 use Rattle.hol_conv.proofs.Arms.{argument-arm, function-arm, body-arm, parts-arm, try-arm, once-arm, once-answers, once-stops, depth-arm, depth-stops, thenc-on, thenc-off, thenc-equation}
@@ -75,7 +75,7 @@ thenc-loop-other-init g t c =
 pub thenc-converted-next-requires : goal.thenc-converted-next-requires
 thenc-converted-next-requires g t c =
     let asked = asks-now c.right_of-right.result.now (g.met.L.Leaves.stays_ready c.args.self.now.leaves.now) c.requires.asked c.loop-other.invariant.1 c.loop-other.invariant.2 c.right_of-right.ensures.known in
-    let le = size_in c.args.others.now c.loop-other.other-index c.other-item.result (omega arith) c.other-item.is in
+    let le = size_in c.args.convs.others.now c.loop-other.other-index c.other-item.result (omega arith) c.other-item.is in
     search rules
 
 pub thenc-right_of-right-requires : goal.thenc-right_of-right-requires
@@ -101,13 +101,15 @@ thenc-then-requires g t c =
 pub thenc-returns-in_err-made-2-clause-converts : goal.thenc-returns-in_err-made-2-clause-converts
 thenc-returns-in_err-made-2-clause-converts g t c =
     let p = err_from_is_err_and c.from_residual-in_err-made-2.result c.from_residual-in_err-made-2.ensures.1 in
-    let so_far = rw (rest-drop (g.L.Leaves.means c.args.self.now.leaves.now) c.args.others.now c.loop-other.other-index c.other-item.result (omega arith) c.other-item.is) at c.loop-other.invariant.0 in
+    let so_far = rw (rest-drop (g.L.Leaves.means c.args.self.now.leaves.now) c.args.convs.others.now c.loop-other.other-index c.other-item.result (omega arith) c.other-item.is)
+    at c.loop-other.invariant.0 in
     rw (p.1, p.2)
     (thenc-off c.loop-other.made so_far c.loop-other.invariant.1 c.right_of-right.ensures.right c.converted-next.ensures.converts c.converted-next.ensures.makes c.in_err-made-2.ensures.joins)
 
 pub thenc-loop-other-preserved : goal.thenc-loop-other-preserved
 thenc-loop-other-preserved g t c =
-    let so_far = rw (rest-drop (g.L.Leaves.means c.args.self.now.leaves.now) c.args.others.now c.loop-other.other-index c.other-item.result (omega arith) c.other-item.is) at c.loop-other.invariant.0 in
+    let so_far = rw (rest-drop (g.L.Leaves.means c.args.self.now.leaves.now) c.args.convs.others.now c.loop-other.other-index c.other-item.result (omega arith) c.other-item.is)
+    at c.loop-other.invariant.0 in
     let next = c.converted-next.ensures.makes in
     let makes = c.in_ok-made-2.ensures.makes in
     let joins = c.in_ok-made-2.ensures.joins in (
@@ -120,7 +122,7 @@ thenc-loop-other-preserved g t c =
 
 pub thenc-returns-clause-converts : goal.thenc-returns-clause-converts
 thenc-returns-clause-converts g t c =
-    let so_far = rw (drop_all c.loop-other.other-index c.args.others.now (omega arith)) at c.loop-other.invariant.0 in
+    let so_far = rw (drop_all c.loop-other.other-index c.args.convs.others.now (omega arith)) at c.loop-other.invariant.0 in
     thenc_end _ _ _ _ _ _ _ _ _ so_far
 
 pub orelsec-returns-in-Ok-clause-converts : goal.orelsec-returns-in-Ok-clause-converts
@@ -134,17 +136,19 @@ orelsec-returns-then-not-is_caught-clause-converts g t c =
 pub orelsec-converted-requires-in-loop-other : goal.orelsec-converted-requires-in-loop-other
 orelsec-converted-requires-in-loop-other g t c =
     let asked = asks-later (g.met.L.Leaves.stays_ready c.args.self.now.leaves.now) c.requires.asked c.loop-other.invariant.1 c.loop-other.invariant.2 in
-    let le = size_in c.args.others.now c.loop-other.other-index c.other-item.result (omega arith) c.other-item.is in
+    let le = size_in c.args.convs.others.now c.loop-other.other-index c.other-item.result (omega arith) c.other-item.is in
     search rules
 
 pub orelsec-returns-in-Ok-converted-clause-converts : goal.orelsec-returns-in-Ok-converted-clause-converts
 orelsec-returns-in-Ok-converted-clause-converts g t c =
-    let so_far = rw (rest-drop (g.L.Leaves.means c.args.self.now.leaves.now) c.args.others.now c.loop-other.other-index c.other-item.result (omega arith) c.other-item.is) at c.loop-other.invariant.0 in
+    let so_far = rw (rest-drop (g.L.Leaves.means c.args.self.now.leaves.now) c.args.convs.others.now c.loop-other.other-index c.other-item.result (omega arith) c.other-item.is)
+    at c.loop-other.invariant.0 in
     chooses_answer _ _ _ _ so_far (search rules) (carried-answer (Ok c.in-Ok-converted.made) c.loop-other.invariant.1 c.in-Ok-converted.ensures.converts)
 
 pub orelsec-loop-other-preserved : goal.orelsec-loop-other-preserved
 orelsec-loop-other-preserved g t c =
-    let so_far = rw (rest-drop (g.L.Leaves.means c.args.self.now.leaves.now) c.args.others.now c.loop-other.other-index c.other-item.result (omega arith) c.other-item.is) at c.loop-other.invariant.0 in
+    let so_far = rw (rest-drop (g.L.Leaves.means c.args.self.now.leaves.now) c.args.convs.others.now c.loop-other.other-index c.other-item.result (omega arith) c.other-item.is)
+    at c.loop-other.invariant.0 in
     let makes = c.in-Err-converted.ensures.makes in (
       chooses_next _ _ _ _ so_far (search rules) (carried c.loop-other.invariant.1 c.in-Err-converted.ensures.converts),
       continued-twice c.loop-other.invariant.1 makes.continued,
@@ -153,54 +157,50 @@ orelsec-loop-other-preserved g t c =
 
 pub orelsec-returns-clause-converts : goal.orelsec-returns-clause-converts
 orelsec-returns-clause-converts g t c =
-    let so_far = rw (drop_all c.loop-other.other-index c.args.others.now (omega arith)) at c.loop-other.invariant.0 in
+    let so_far = rw (drop_all c.loop-other.other-index c.args.convs.others.now (omega arith)) at c.loop-other.invariant.0 in
     chooses_end _ _ _ _ so_far
 
 pub rand_conv-of_argument-requires : goal.rand_conv-of_argument-requires
 rand_conv-of_argument-requires g t c =
-    let parts = c.in_ok-function.ensures.ok in
+    let parts = c.in_ok-halves.ensures.ok in
     let makes = c.below-part.ensures.makes in
     record {
       library = makes.library;
       whole = parts.is;
       known = known-later c.args.t.now makes.continued c.requires.asked.known;
-      function = known-later c.in_ok-function.function.now makes.continued (known-function c.requires.asked parts.is);
-      argument = known-later c.in_ok-function.argument.now makes.continued (known-argument c.requires.asked parts.is);
       part = makes.made;
     }
 
 pub rand_conv-returns-clause-converts : goal.rand_conv-returns-clause-converts
 rand_conv-returns-clause-converts g t c =
-    argument-arm c.of_argument.result c.in_ok-function.ensures.ok c.below-part.ensures.converts c.below-part.ensures.makes c.of_argument.ensures.joins
+    argument-arm c.of_argument.result c.in_ok-halves.ensures.ok c.below-part.ensures.converts c.below-part.ensures.makes c.of_argument.ensures.joins
 
-pub rand_conv-returns-in_err-function-clause-converts : goal.rand_conv-returns-in_err-function-clause-converts
-rand_conv-returns-in_err-function-clause-converts g t c =
+pub rand_conv-returns-in_err-halves-clause-converts : goal.rand_conv-returns-in_err-halves-clause-converts
+rand_conv-returns-in_err-halves-clause-converts g t c =
     let p = err_from_is_err_and c.from_residual.result c.from_residual.ensures.1 in
     rw (p.1, p.2)
-    (rand-refused _ _ _ c.in_err-function.ensures.err)
+    (rand-refused _ _ _ c.in_err-halves.ensures.err)
 
 pub rator_conv-of_function-requires : goal.rator_conv-of_function-requires
 rator_conv-of_function-requires g t c =
-    let parts = c.in_ok-function.ensures.ok in
+    let parts = c.in_ok-halves.ensures.ok in
     let makes = c.below-part.ensures.makes in
     record {
       library = makes.library;
       whole = parts.is;
       known = known-later c.args.t.now makes.continued c.requires.asked.known;
-      function = known-later c.in_ok-function.function.now makes.continued (known-function c.requires.asked parts.is);
-      argument = known-later c.in_ok-function.argument.now makes.continued (known-argument c.requires.asked parts.is);
       part = makes.made;
     }
 
 pub rator_conv-returns-clause-converts : goal.rator_conv-returns-clause-converts
 rator_conv-returns-clause-converts g t c =
-    function-arm c.of_function.result c.in_ok-function.ensures.ok c.below-part.ensures.converts c.below-part.ensures.makes c.of_function.ensures.joins
+    function-arm c.of_function.result c.in_ok-halves.ensures.ok c.below-part.ensures.converts c.below-part.ensures.makes c.of_function.ensures.joins
 
-pub rator_conv-returns-in_err-function-clause-converts : goal.rator_conv-returns-in_err-function-clause-converts
-rator_conv-returns-in_err-function-clause-converts g t c =
+pub rator_conv-returns-in_err-halves-clause-converts : goal.rator_conv-returns-in_err-halves-clause-converts
+rator_conv-returns-in_err-halves-clause-converts g t c =
     let p = err_from_is_err_and c.from_residual.result c.from_residual.ensures.1 in
     rw (p.1, p.2)
-    (rator-refused _ _ _ c.in_err-function.ensures.err)
+    (rator-refused _ _ _ c.in_err-halves.ensures.err)
 
 pub abs_conv-of_body-requires : goal.abs_conv-of_body-requires
 abs_conv-of_body-requires g t c =
@@ -242,8 +242,6 @@ sub_conv-of_parts-requires g t c =
       library = second.library;
       whole = sym is;
       known = known-later c.args.t.now continued c.requires.asked.known;
-      function = known-later c.in-Combination.function.now continued (known-function c.requires.asked (sym is));
-      argument = known-later c.in-Combination.argument.now continued (known-argument c.requires.asked (sym is));
       first = still-answers c.in-Combination.function.now c.in_ok-first-in-Combination.first second.continued c.in_ok-first-in-Combination.ensures.makes.made;
       second = second.made;
     }

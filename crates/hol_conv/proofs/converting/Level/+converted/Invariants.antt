@@ -19,10 +19,10 @@ abbrev pub decreases-converted : goal.decreases-converted
 decreases-converted g l = 12 * size_of l.conv.now + 6 * (DESCENTS_LIMIT - l.self.now.depth) + 4
 
 abbrev pub decreases-thenc : goal.decreases-thenc
-decreases-thenc g l = 12 * (size_of l.first.now + sizes_of l.others.now) + 6 * (DESCENTS_LIMIT - l.self.now.depth) + 5
+decreases-thenc g l = 12 * (size_of l.convs.first.now + sizes_of l.convs.others.now) + 6 * (DESCENTS_LIMIT - l.self.now.depth) + 5
 
 abbrev pub decreases-orelsec : goal.decreases-orelsec
-decreases-orelsec g l = 12 * (size_of l.first.now + sizes_of l.others.now) + 6 * (DESCENTS_LIMIT - l.self.now.depth) + 5
+decreases-orelsec g l = 12 * (size_of l.convs.first.now + sizes_of l.convs.others.now) + 6 * (DESCENTS_LIMIT - l.self.now.depth) + 5
 
 abbrev pub decreases-repeatc : goal.decreases-repeatc
 decreases-repeatc g l = 12 * size_of l.conv.now + 6 * (DESCENTS_LIMIT - l.self.now.depth) + 6
@@ -46,24 +46,24 @@ abbrev pub decreases-sub_conv : goal.decreases-sub_conv
 decreases-sub_conv g l = 12 * size_of l.conv.now + 6 * (DESCENTS_LIMIT - l.self.now.depth) + 1
 
 abbrev pub decreases-depth_conv : goal.decreases-depth_conv
-decreases-depth_conv g l = 12 * size_of l.whole.now + 6 * (DESCENTS_LIMIT - l.self.now.depth) + 2
+decreases-depth_conv g l = 12 * size_of l.deep.conv.now + 6 * (DESCENTS_LIMIT - l.self.now.depth) + 2
 
 abbrev pub decreases-once_depth_conv : goal.decreases-once_depth_conv
-decreases-once_depth_conv g l = 12 * size_of l.whole.now + 6 * (DESCENTS_LIMIT - l.self.now.depth) + 2
+decreases-once_depth_conv g l = 12 * size_of l.deep.conv.now + 6 * (DESCENTS_LIMIT - l.self.now.depth) + 2
 
 abbrev pub decreases-top_depth_conv : goal.decreases-top_depth_conv
-decreases-top_depth_conv g l = 12 * size_of l.whole.now + 6 * (DESCENTS_LIMIT - l.self.now.depth) + 3
+decreases-top_depth_conv g l = 12 * size_of l.deep.conv.now + 6 * (DESCENTS_LIMIT - l.self.now.depth) + 3
 
 abbrev pub decreases-top_depth_on : goal.decreases-top_depth_on
-decreases-top_depth_on g l = 12 * size_of l.whole.now + 6 * (DESCENTS_LIMIT - l.self.now.depth) + 2
+decreases-top_depth_on g l = 12 * size_of l.deep.conv.now + 6 * (DESCENTS_LIMIT - l.self.now.depth) + 2
 
 -- ---- loops
 
 abbrev pub invariant-thenc-loop-other : goal.invariant-thenc-loop-other
 invariant-thenc-loop-other g l =
     ThencSoFar l.fn.library.recorder.theory (store_in l.fn.library) (g.L.Leaves.hosts l.self.leaves.now) l.self.depth
-    l.fn.fuel.left (thenc_of (g.L.Leaves.means l.self.leaves.now) l.first l.others) l.t l.fuel.left (theorem_of l.fn.library.recorder.theory l.t l.made)
-    (all_stand_for (g.L.Leaves.means l.self.leaves.now) (drop l.other-index l.others))
+    l.fn.fuel.left (thenc_of (g.L.Leaves.means l.self.leaves.now) l.convs.first.now l.convs.others.now) l.t l.fuel.left (theorem_of l.fn.library.recorder.theory l.t l.made)
+    (all_stand_for (g.L.Leaves.means l.self.leaves.now) (drop l.other-index l.convs.others.now))
     × IsContinued l.fn.library l.library
     × IsLibrary l.library
     × IsAnswerOf l.library l.t l.made
@@ -72,7 +72,7 @@ invariant-thenc-loop-other g l =
 abbrev pub invariant-orelsec-loop-other : goal.invariant-orelsec-loop-other
 invariant-orelsec-loop-other g l =
     ChoosesSoFar l.fn.library.recorder.theory (store_in l.fn.library) (g.L.Leaves.hosts l.self.leaves.now) l.self.depth
-    l.fn.fuel.left (orelsec_of (g.L.Leaves.means l.self.leaves.now) l.first l.others) l.t l.fuel.left l.fault (all_stand_for (g.L.Leaves.means l.self.leaves.now) (drop l.other-index l.others))
+    l.fn.fuel.left (orelsec_of (g.L.Leaves.means l.self.leaves.now) l.convs.first.now l.convs.others.now) l.t l.fuel.left l.fault (all_stand_for (g.L.Leaves.means l.self.leaves.now) (drop l.other-index l.convs.others.now))
     × IsContinued l.fn.library l.library
     × IsLibrary l.library
 
@@ -96,10 +96,10 @@ abbrev pub invariant-top_depth_on-loop-chain : goal.invariant-top_depth_on-loop-
 invariant-top_depth_on-loop-chain g l =
     ((first : ℕ)
     → JoinedSoFar l.fn.library.recorder.theory (store_in l.fn.library) (g.L.Leaves.hosts l.self.leaves.now) l.self.depth
-    first (stands_for (g.L.Leaves.means l.self.leaves.now) l.whole) l.t l.fn.fuel.left (top_depth_again (stands_for (g.L.Leaves.means l.self.leaves.now) l.part))
+    first (stands_for (g.L.Leaves.means l.self.leaves.now) l.deep.conv.now) l.t l.fn.fuel.left (top_depth_again (stands_for (g.L.Leaves.means l.self.leaves.now) l.deep.part.now))
     (proved_by l.fn.library.recorder.theory l.fn.chain) l.fn.chain.current
     → JoinedSoFar l.fn.library.recorder.theory (store_in l.fn.library) (g.L.Leaves.hosts l.self.leaves.now) l.self.depth
-    first (stands_for (g.L.Leaves.means l.self.leaves.now) l.whole) l.t l.fuel.left (top_depth_again (stands_for (g.L.Leaves.means l.self.leaves.now) l.part))
+    first (stands_for (g.L.Leaves.means l.self.leaves.now) l.deep.conv.now) l.t l.fuel.left (top_depth_again (stands_for (g.L.Leaves.means l.self.leaves.now) l.deep.part.now))
     (proved_by l.fn.library.recorder.theory l.chain) l.chain.current)
     × IsContinued l.fn.library l.library
     × IsLibrary l.library
