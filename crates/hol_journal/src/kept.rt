@@ -1,5 +1,5 @@
 // The entries of a recorder: all of them for proofs, and those that are kept.
-ghost use Rattle.std.specs.Prelude.{◌≡◌, List, [], ◌∷◌, ◌++◌, true, length, IfOk, IfErr, OnOk, OnErr, IsTrue};
+ghost use Rattle.std.specs.Prelude.{◌≡◌, List, [], ◌∷◌, ◌++◌, Some, true, length, slice_get, IfOk, IfErr, IfSome, OnOk, OnErr, IsTrue};
 ghost use Rattle.hol_model.specs.declared.fault.Fault.TheVariants.{Memory};
 ghost use Rattle.hol_journal.specs.Steps.{JournalEntry, derived, sequent_of_theorem};
 ghost use Rattle.hol_journal.specs.Journal.{added_by};
@@ -20,8 +20,21 @@ pub(crate) struct Numbered {
     entry: Entry,
 }
 
-// The entry of a number, where it is among these.
-fn found(kept: &[Numbered], number: usize) -> Option<&Entry>
+// The entry at the place of its number, where it is there: it is, unless one before it is missing.
+fn found_at_once(kept: &[Numbered], number: usize) -> Option<&Entry>
+    ensures { IfSome result (λ entry. (entries : List JournalEntry) → AreKept 0 entries kept.now → slice_get entries number ≡ Some (entry_of entry.now)) }
+{
+    let Some(one) = kept.get(number) else {
+        return None;
+    };
+    if one.number != number {
+        return None;
+    }
+    Some(&one.entry)
+}
+
+// The entry of a number, looked for by halves.
+fn found_by_halves(kept: &[Numbered], number: usize) -> Option<&Entry>
     ensures { (entries : List JournalEntry) → AreKept 0 entries kept.now → IsStored entries number result }
 {
     let place = kept.partition_point(|one| one.number < number);
@@ -32,6 +45,16 @@ fn found(kept: &[Numbered], number: usize) -> Option<&Entry>
         return None;
     }
     Some(&one.entry)
+}
+
+// The entry of a number, where it is among these.
+fn found(kept: &[Numbered], number: usize) -> Option<&Entry>
+    ensures { (entries : List JournalEntry) → AreKept 0 entries kept.now → IsStored entries number result }
+{
+    match found_at_once(kept, number) {
+        Some(entry) => Some(entry),
+        None => found_by_halves(kept, number),
+    }
 }
 
 // Drops the last ones from this number on, with the room that they took.

@@ -3,7 +3,7 @@ use Rattle.std.proofs.lemmas.Option.{slice_get_read}
 use Rattle.std.proofs.lemmas.List.Sorted.{IsPartitionPoint-from_clause, IsPartitionedBy-ltb}
 use Rattle.hol_journal.specs.declared.kept.Numbered.{Numbered}
 use Rattle.hol_journal.proofs.NumberedLemmas.{kept_rise, kept_at, kept_nowhere, same_one, none_past}
-use Rattle.hol_journal.proofs.kept.found.Goals as goal
+use Rattle.hol_journal.proofs.kept.found_by_halves.Goals as goal
 
 pub returns-in_default : goal.returns-in_default
 returns-in_default c = λ entries are.
