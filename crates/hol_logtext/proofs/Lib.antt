@@ -6,6 +6,6 @@ pub mod JoinLemmas
 pub mod LineLemmas
 pub mod LogLemmas
 pub mod AcceptedLemmas
-mod LogTextLemmas
 pub mod WriteLemmas
+mod WrittenLemmas
 pub mod SmallLogs

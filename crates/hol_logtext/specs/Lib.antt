@@ -1,8 +1,10 @@
 pub mod Fields
 pub mod LineText
 pub mod LineReading
+pub mod LineCode
 pub mod Laws
 pub mod LogBytes
+pub mod LogViews
 pub mod Lines
 pub mod Writing
 pub mod SmallLogs

@@ -14,11 +14,19 @@ pub(crate) fn write_text(out: &mut Vec<u8>, text: &str) -> Result<(), AllocError
     out.extend_from_slice(text.as_bytes())
 }
 
+/// Puts a byte at the end.
+pub(crate) fn write_byte(out: &mut Vec<u8>, byte: u8) -> Result<(), AllocError>
+    ensures { Writes result out.old.items out.new.items (λ rest. byte ∷ rest) }
+{
+    out.push(byte)?;
+    Ok(())
+}
+
 /// Puts a space and a field at the end.
 pub(crate) fn write_field(out: &mut Vec<u8>, field: &str) -> Result<(), AllocError>
     ensures { Writes result out.old.items out.new.items (spaced (field.now ∷ [])) }
 {
-    write_text(out, " ")?;
+    write_byte(out, b' ')?;
     write_text(out, field)
 }
 

@@ -7,8 +7,8 @@ ghost use Rattle.hol_logtext.specs.Writing.{Writes};
 
 use crate::line::{Line, Rule, Version};
 use crate::output::{
-    write_field, write_name_and_number, write_number, write_numbers, write_pair, write_pairs,
-    write_text,
+    write_byte, write_field, write_name_and_number, write_number, write_numbers, write_pair,
+    write_pairs, write_text,
 };
 use std::alloc::AllocError;
 
@@ -134,7 +134,7 @@ fn write_whole(out: &mut Vec<u8>, line: &Line<'_>) -> Result<(), AllocError>
     ensures { Writes result out.old.items out.new.items (λ rest. joined (line_fields (line_of line.now)) (10 ∷ rest)) }
 {
     write_fields(out, line)?;
-    write_text(out, "\n")
+    write_byte(out, b'\n')
 }
 
 /// Puts a line with its line feed at the end of a text.
