@@ -7,6 +7,7 @@ pub mod MarkingLemmas
 pub mod MentionLemmas
 pub mod WriterLemmas
 pub mod NamesLemmas
+pub mod NumberedLemmas
 pub mod LogEntries
 pub mod LogClaims
 pub mod EarlierEntries

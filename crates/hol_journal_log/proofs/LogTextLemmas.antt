@@ -1,25 +1,38 @@
 -- The text of a pruned log.
-use Rattle.std.proofs.Common.{◌≡◌, ℕ, List, map, ap, ◌∙◌, Result, Ok, Err, Vec, Global}
+use Rattle.std.proofs.Common.{◌≤◌, ℕ, List, length, ap, ◌∙◌, subst, Result, Ok, Err, Vec, Global}
 use Rattle.std.specs.Prelude.{IfOk}
+use Rattle.hol_model.specs.declared.limits.TheConstants.{TEXT_BYTES_LIMIT}
 use Rattle.hol_model.specs.declared.fault.Fault.{Fault}
-use Rattle.hol_model.specs.Logic.Theory.{Theory}
-use Rattle.hol_model.specs.Logs.LogState.{LogState}
 use Rattle.hol_model.specs.Logs.LogText.{log_outcome}
-use Rattle.hol_logtext.specs.LogBytes.{log_text, text_of_lines}
-use Rattle.hol_logtext.specs.Lines.{line_of}
-use Rattle.hol_logtext.specs.declared.line.Line.{Line}
+use Rattle.hol_logtext.specs.Laws.{LogsReadBack}
+use Rattle.hol_logtext.specs.LogBytes.{log_text}
+use Rattle.hol_journal.specs.Journal.{Journal, IsJournal}
 use Rattle.hol_journal_log.specs.LogWriting.{Claimed}
-use Rattle.hol_journal_log.specs.LogAccepted.{IsAccepted}
-use Rattle.hol_journal_log.specs.LogOf.{IsLogOf}
+use Rattle.hol_journal_log.specs.LogAccepted.{LogsAreAccepted}
+use Rattle.hol_journal_log.specs.Pruning.{AreMade, AreFitting, HaveIdentifiers}
+use Rattle.hol_journal_log.specs.LogOf.{IsPrunedText, IsNamedText, IsLogOf}
+use Rattle.hol_journal_log.proofs.PrunedLemmas.{lines_accepted}
 
--- the text of accepted lines is accepted
-pub text-accepted : (result : Result (Vec ℕ Global) Fault) (given lines : List Line) (claims : List Claimed) (theory : Theory) → given ≡ lines
-    → ((state : LogState) → log_outcome (text_of_lines (map line_of given)) ≡ Ok state → IfOk result (λ (text : Vec ℕ Global). log_outcome (log_text text.items) ≡ Ok state))
-    → IsAccepted theory (map line_of lines) claims → IfOk result (λ (text : Vec ℕ Global). IsLogOf theory text.items claims)
-text-accepted (Ok text) given lines claims theory same accepts is = record {
-  state = is.state;
-  accepted = accepts is.state (ap (λ (ls : List Line). log_outcome (text_of_lines (map line_of ls))) same ∙ is.outcome);
-  claimed = is.are_claimed;
-  entries = is.entries;
-}
-text-accepted (Err fault) given lines claims theory same accepts is = tt
+module _ (journal : Journal) (claims : List Claimed) where
+  -- what is told of the text, without the names
+  pub text_pruned : (result : Result (Vec ℕ Global) Fault) → IfOk result (λ (text : Vec ℕ Global). IsNamedText journal claims text.items)
+      → IfOk result (λ (text : Vec ℕ Global). IsPrunedText journal claims text.items)
+  text_pruned (Ok text) named = named.is
+  text_pruned (Err fault) named = tt
+
+  -- the text of accepted lines is accepted
+  pub text_accepted : (result : Result (Vec ℕ Global) Fault) → LogsAreAccepted → LogsReadBack → IsJournal journal → AreMade journal claims → AreFitting claims
+      → IfOk result (λ (text : Vec ℕ Global). IsNamedText journal claims text.items) → IfOk result (λ (text : Vec ℕ Global). length text.items ≤ TEXT_BYTES_LIMIT)
+      → HaveIdentifiers claims → IfOk result (λ (text : Vec ℕ Global). IsLogOf journal.theory text.items claims)
+  text_accepted (Ok text) accepts read is made fitting named within identifiers =
+      let lines = named.is.lines in
+      let spelled = named.is.spelled in
+      let accepted = lines_accepted lines journal claims accepts is made fitting named.is.pruned named.named identifiers in
+      record {
+        state = accepted.state;
+        accepted = ap (λ (bytes : List ℕ). log_outcome (log_text bytes)) spelled
+            ∙ read.accepted lines accepted.state (subst (λ (bytes : List ℕ). length bytes ≤ TEXT_BYTES_LIMIT) spelled within) accepted.outcome;
+        claimed = accepted.are_claimed;
+        entries = accepted.entries;
+      }
+  text_accepted (Err fault) accepts read is made fitting named within identifiers = tt

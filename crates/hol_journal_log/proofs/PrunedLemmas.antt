@@ -1,5 +1,5 @@
 -- The pruned log.
-use Rattle.std.proofs.Common.{suc, [], ◌∷◌, ◌++◌, true, inl, inr, refl, ◌≡◌, ℕ, ◌<◌, List, length, Result, Ok, Err, IfOk, sym, ◌∙◌, ap, subst, arith}
+use Rattle.std.proofs.Common.{suc, [], ◌∷◌, ◌++◌, true, inl, inr, refl, ◌≡◌, ℕ, ◌<◌, List, length, sym, ◌∙◌, ap, subst, arith}
 use Rattle.std.specs.Prelude.{slice_get}
 use Rattle.hol_model.specs.Logic.Derivable.{IsMember}
 use Rattle.hol_model.proofs.Terms.Membership.{of_map, of_append}
@@ -56,11 +56,9 @@ fitting_turn front longer claim is before one claimed member =
     push [] = refl
     push (first ∷ claims) = ap (λ l. claim_of first ∷ l) (push claims)
 
-pub accepted_answers : {A E : Type 0} (answer : Result A E) (lines : A → List LogLine) (journal : Journal) (claims : List Claimed) → LogsAreAccepted
-    → IsJournal journal → AreMade journal claims → AreFitting claims
-    → IfOk answer (λ all. IsPruned journal claims (lines all)) → IfOk answer (λ all. HasNames (lines all)) → HaveIdentifiers claims → IfOk answer (λ all. IsAccepted journal.theory (lines all) claims)
-accepted_answers (Ok all) lines journal claims accepts is made fitting pruned named identifiers =
+pub lines_accepted : (lines : List LogLine) (journal : Journal) (claims : List Claimed) → LogsAreAccepted → IsJournal journal → AreMade journal claims → AreFitting claims
+    → IsPruned journal claims lines → HasNames lines → HaveIdentifiers claims → IsAccepted journal.theory lines claims
+lines_accepted lines journal claims accepts is made fitting pruned named identifiers =
     let accepted = accepts journal pruned.marks claims is pruned.needed (subst HasNames pruned.is_log named)
     (λ claim member. record { is_name = identifiers claim member; made = made claim member; theorem = (fitting claim member).is_theorem; formulas = (fitting claim member).formulas }) in
     subst (λ l. IsAccepted journal.theory l claims) (sym pruned.is_log) accepted
-accepted_answers (Err e) lines journal claims accepts is made fitting pruned named identifiers = tt

@@ -1,14 +1,10 @@
 -- The steps of the writer.
 use Rattle.std.proofs.Common.{◌≡◌, ℕ, zero, suc, ◌+◌, ◌||◌, List, [], ◌∷◌, ◌++◌, Bool, true, false, cond, not, if◌then◌else◌, map, refl, sym, ◌∙◌, ap, subst}
-use Rattle.std.proofs.Common.{eqb, Result, Ok, Err, IfOk, Some, None, length, arith}
-use Rattle.std.specs.Prelude.{position, nat_lt, slice_get}
-use Rattle.std.proofs.lemmas.List.Sums.{prefix_len-le-length}
-use Rattle.std.proofs.lemmas.Bool.Decides.{nat_tests}
+use Rattle.std.proofs.Common.{eqb, Result, Ok, Err, IfOk, Some, arith}
+use Rattle.std.specs.Prelude.{slice_get}
 use Rattle.hol_model.specs.Terms.HolType.{HolType, function_type, type_eq}
 use Rattle.hol_model.specs.Terms.NamedTerm.{NamedTerm, variable, constant, combination, abstraction}
 use Rattle.hol_model.specs.Logs.LogLine.LogLine.{function_type_line, variable_line, constant_line, combination_line, abstraction_line}
-use Rattle.hol_logtext.specs.declared.line.Line.{Line}
-use Rattle.hol_logtext.specs.Lines.{line_of}
 use Rattle.hol_model.specs.declared.fault.Fault.{Fault}
 use Rattle.std.specs.Str.{bytes_eq}
 use Rattle.std.proofs.lemmas.Slice.Eq.{bytes_eq-Decides}
@@ -252,12 +248,8 @@ term_at keys key place types theorems lines distinct there =
     was_term (line_of_term key) (term_is_named key) types theorems lines place (map line_of_term keys) (sym (any-line term_line.ghosts.eq line_of_term term_lines_agree key keys) ∙ any)
     (sym first ∙ place-line term_line.ghosts.eq line_of_term term_lines_agree key keys)
 
-pub lines_end : (old new : List Line) (line : Line) (is : LogLine) → new ≡ old ++ line ∷ [] → line_of line ≡ is → map line_of new ≡ map line_of old ++ is ∷ []
-lines_end old new line is longer same = ap (map line_of) longer ∙ go old
-  where
-    go : (lines : List Line) → map line_of (lines ++ line ∷ []) ≡ map line_of lines ++ is ∷ []
-    go [] = ap (λ l. l ∷ []) same
-    go (first ∷ lines) = ap (λ l. line_of first ∷ l) (go lines)
+pub line_put : (old new : List LogLine) (line is : LogLine) → new ≡ old ++ line ∷ [] → line ≡ is → new ≡ old ++ is ∷ []
+line_put old new line is longer same = longer ∙ ap (λ l. old ++ l ∷ []) same
 
 -- what calls answer over written parts
 
@@ -316,13 +308,3 @@ combination_at term f a w i j n is put first second = subst (λ s. IsTermWritten
 pub abstraction_at : (term : NamedTerm) (name : List ℕ) (ty : HolType) (body : NamedTerm) (w : Written) (i j n : ℕ) → abstraction name ty body ≡ term → IsTermLineWritten w w (abstraction_line i j) n
     → IsTermWritten w w (variable name ty) i → IsTermWritten w w body j → IsTermWritten w w term n
 abstraction_at term name ty body w i j n is put first second = subst (λ s. IsTermWritten w w s n) is (abstraction_written name ty body w w w w i j n first second put)
-
--- the number of what is not there
-pub place_none : {X : Type 0} (p : X → Bool) (xs : List X) → None ≡ position p xs → length xs ≡ position_or_len p xs
-place_none p xs none = go (nat_lt (position_or_len p xs) (length xs)) refl none
-  where
-    go : (test : Bool) → nat_lt (position_or_len p xs) (length xs) ≡ test → None ≡ (if test then Some (position_or_len p xs) else None) → length xs ≡ position_or_len p xs
-    go true is none = cc
-    go false is none =
-        let low = prefix_len-le-length (λ x. not (p x)) xs in
-        grind (arith, nat_tests)

@@ -3,6 +3,7 @@ pub mod LogWriting
 pub mod Writing
 pub mod Marking
 pub mod Noted
+pub mod Numbered
 pub mod Writer
 pub mod WrittenNames
 pub mod LogAccepted

@@ -9,13 +9,18 @@ use Rattle.hol_logtext.specs.LogBytes.{log_text, bytes_of_lines}
 use Rattle.hol_journal.specs.Journal.{Journal}
 use Rattle.hol_journal_log.specs.LogWriting.{Claimed}
 use Rattle.hol_journal_log.specs.LogAccepted.{log_claim, IsPartOf}
-use Rattle.hol_journal_log.specs.Pruning.{IsPruned}
+use Rattle.hol_journal_log.specs.Pruning.{IsPruned, HasNames}
 
 -- the bytes of the lines of the pruned log
 pub record IsPrunedText (journal : Journal) (claims : List Claimed) (text : List ℕ) : Type 0 where
   pub lines : List LogLine
   pub pruned : IsPruned journal claims lines
   pub spelled : text ≡ bytes_of_lines lines
+
+-- the same, where the names in the lines are of their kinds
+pub record IsNamedText (journal : Journal) (claims : List Claimed) (text : List ℕ) : Type 0 where
+  pub is : IsPrunedText journal claims text
+  pub named : HasNames is.lines
 
 -- the text of an accepted log with these claims, over entries of this theory
 pub record IsLogOf (theory : Theory) (text : List ℕ) (claims : List Claimed) : Type 0 where

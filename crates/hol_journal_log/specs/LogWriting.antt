@@ -180,6 +180,10 @@ write_claims claims written = write_each write_claim claims written
 abbrev pub log_written : List JournalEntry → List Bool → List Claimed → Written
 log_written entries marks claims = write_claims claims (write_entries 0 entries marks nothing_written)
 
+-- lines between the header and the end, which tells how many claims there are
+abbrev pub closed : ℕ → List LogLine → List LogLine
+closed claims lines = header_line second_version ∷ (lines ++ end_line claims ∷ [])
+
 -- the lines of the log, from the header to the end
 abbrev pub log_lines : List JournalEntry → List Bool → List Claimed → List LogLine
-log_lines entries marks claims = header_line second_version ∷ ((log_written entries marks claims).lines ++ end_line (length claims) ∷ [])
+log_lines entries marks claims = closed (length claims) (log_written entries marks claims).lines

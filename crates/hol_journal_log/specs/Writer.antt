@@ -2,7 +2,6 @@
 use Rattle.std.specs.Prelude.{map}
 use Rattle.hol_model.specs.Logs.LogLine.{LogLine}
 use Rattle.hol_model.specs.Logs.LogLine.LogLine.{type_variable_line, bool_line, function_type_line, declared_type_line, variable_line, constant_line, combination_line, abstraction_line}
-use Rattle.hol_logtext.specs.Lines.{line_of}
 use Rattle.hol_journal_log.specs.LogWriting.{Written}
 use Rattle.hol_journal_log.specs.declared.lines.TypeLine.{TypeLine}
 use Rattle.hol_journal_log.specs.declared.lines.TypeLine.TheVariants as types
@@ -26,6 +25,6 @@ abbrev pub written : Writer → Written
 written writer = record {
   types = map line_of_type writer.types.keys;
   terms = map line_of_term writer.terms.keys;
-  theorems = writer.theorems.keys;
-  lines = map line_of writer.lines.items;
+  theorems = writer.theorems;
+  lines = writer.log;
 }

@@ -6,12 +6,13 @@ ghost use Rattle.hol_journal_log.specs.Pruning.{AreMade, HaveIdentifiers};
 ghost use Rattle.hol_journal_log.specs.LogOf.{IsPrunedText, IsLogOf, IsPastLimit};
 
 use crate::claim::Claim;
-use crate::pruning::pruned;
+use crate::log_laws::journal_logs_are_accepted;
+use crate::pruning::{claims_fit, pruned_text};
 use hol_journal::Recorder;
-use hol_logtext::text_of_lines;
+use hol_logtext::logs_read_back;
 use hol_model::{Fault, TEXT_BYTES_LIMIT};
 
-/// The text of the log of the claims, which `pruned` gives, within the limit on texts. Where each claim's name is an
+/// The text of the log of the claims, pruned to the entries that they need, within the limit on texts. Where each claim's name is an
 /// identifier, it is accepted, with these claims, over entries of the recorder's theory.
 ///
 /// Refusals: Memory, also where an entry that the log needs is not kept, and TooLong, where the text would be longer.
@@ -23,7 +24,9 @@ pub fn log_text<'a>(recorder: &'a Recorder, claims: &[Claim<'a>]) -> Result<Vec<
     ensures too_long { IsErrOf result TooLong → IsPastLimit recorder.now (claims_of claims.now) }
     ensures refusals { IfErr result (Contains (TooLong ∷ Memory ∷ [])) }
 {
-    let alloc = recorder.alloc();
-    let lines = pruned(recorder, claims)?;
-    text_of_lines(alloc, &lines)
+    journal_logs_are_accepted();
+    logs_read_back();
+    claims_fit(claims);
+    let _entry = recorder.stored(0);
+    pruned_text(recorder, claims)
 }

@@ -1,5 +1,5 @@
-// The names that marked entries mention, found before anything is written. Terms are told apart by their marks alone, so a name may be
-// passed over.
+// The entries that introduce names that marked entries mention, found by a walk over terms. Terms are told apart by their marks alone, so
+// a name may be passed over.
 ghost use Rattle.std.specs.Prelude.{◌≡◌, Some, [], if◌then◌else◌, slice_get, IfOk, IfErr, OnOk};
 ghost use Rattle.std.specs.List.{flat_map};
 ghost use Rattle.hol_model.specs.declared.fault.Fault.TheVariants.{Memory};
@@ -8,15 +8,41 @@ ghost use Rattle.hol_journal.specs.Views.{step_of, entry_of};
 ghost use Rattle.hol_journal_log.specs.Needed.{names_in_term, names_in, StandOnEarlier};
 ghost use Rattle.hol_journal_log.specs.Marking.{NotesAmong, AreCitedFrom, AreMentioned};
 
+use crate::hints::Hints;
 use crate::needed::{Names, name_stored, note_type};
 use hol_journal::Recorder;
 use hol_journal::entry::{Entry, Rule};
 use hol_model::Fault;
 use hol_terms::{Parts, Term};
-use indexmap::IndexSet;
 
-/// Names that marked entries mention.
-pub(crate) fn mentioned_names<'a>(
+/// Marks besides the entries that introduce names that marked entries mention, and, from the newest back, names that these mention.
+/// Refusal: Memory, also where entries are not kept.
+pub(crate) fn mark_mentioned(
+    recorder: &Recorder,
+    claimed: &[usize],
+    marks: &mut Vec<bool>,
+) -> Result<(), Fault>
+    requires { AreCitedFrom recorder.now.entries claimed.now 0 marks.old.items }
+    ensures ok { OnOk result (AreCitedFrom recorder.now.entries claimed.now 0 marks.new.items) }
+    ensures err { IfErr result (λ fault. fault ≡ Memory) }
+{
+    let mut names = mentioned_names(recorder, claimed, marks)?;
+    let mut is_more = false;
+    let count = recorder.entries();
+    for behind in 0..count {
+        name_stored(
+            recorder,
+            count - 1 - behind,
+            marks,
+            &mut names,
+            &mut is_more,
+        )?;
+    }
+    Ok(())
+}
+
+// Names that marked entries mention.
+fn mentioned_names<'a>(
     recorder: &'a Recorder,
     claimed: &[usize],
     marks: &[bool],
@@ -26,32 +52,11 @@ pub(crate) fn mentioned_names<'a>(
     ensures err { IfErr result (λ fault. fault ≡ Memory) }
 {
     let mut names = Names::new(recorder.alloc());
-    let mut seen = IndexSet::new(recorder.alloc());
+    let mut seen = Hints::new(recorder.alloc())?;
     for place in 0..marks.len() {
         note_marked(recorder, place, marks[place], &mut seen, &mut names)?;
     }
     Ok(names)
-}
-
-/// Marks besides the entries that introduce these names, and notes the names that they mention.
-pub(crate) fn mark_mentioned<'a>(
-    recorder: &'a Recorder,
-    claimed: &[usize],
-    marks: &mut Vec<bool>,
-    names: &mut Names<'a>,
-) -> Result<(), Fault>
-    requires cited { AreCitedFrom recorder.now.entries claimed.now 0 marks.old.items }
-    requires mentioned { AreMentioned recorder.now.entries claimed.now names.old }
-    ensures cited { OnOk result (AreCitedFrom recorder.now.entries claimed.now 0 marks.new.items) }
-    ensures mentioned { OnOk result (AreMentioned recorder.now.entries claimed.now names.new) }
-    ensures err { IfErr result (λ fault. fault ≡ Memory) }
-{
-    let mut is_more = false;
-    let count = recorder.entries();
-    for behind in 0..count {
-        name_stored(recorder, count - 1 - behind, marks, names, &mut is_more)?;
-    }
-    Ok(())
 }
 
 // Notes names that the entry of a number mentions, if it is marked.
@@ -59,7 +64,7 @@ fn note_marked<'a>(
     recorder: &'a Recorder,
     place: usize,
     mark: bool,
-    seen: &mut IndexSet<u32>,
+    seen: &mut Hints,
     names: &mut Names<'a>,
 ) -> Result<(), Fault>
     ensures ok { (entry : JournalEntry) → slice_get recorder.now.entries place ≡ Some entry
@@ -75,11 +80,7 @@ fn note_marked<'a>(
     }
 }
 
-fn note_entry<'a>(
-    entry: &'a Entry,
-    seen: &mut IndexSet<u32>,
-    names: &mut Names<'a>,
-) -> Result<(), Fault>
+fn note_entry<'a>(entry: &'a Entry, seen: &mut Hints, names: &mut Names<'a>) -> Result<(), Fault>
     ensures ok { OnOk result (NotesAmong names.old names.new (names_in (entry_of entry.now))) }
     ensures err { IfErr result (λ fault. fault ≡ Memory) }
 {
@@ -90,11 +91,7 @@ fn note_entry<'a>(
     }
 }
 
-fn note_rule<'a>(
-    rule: &'a Rule,
-    seen: &mut IndexSet<u32>,
-    names: &mut Names<'a>,
-) -> Result<(), Fault>
+fn note_rule<'a>(rule: &'a Rule, seen: &mut Hints, names: &mut Names<'a>) -> Result<(), Fault>
     ensures ok { OnOk result (NotesAmong names.old names.new (flat_map names_in_term (terms_of (step_of rule.now)))) }
     ensures err { IfErr result (λ fault. fault ≡ Memory) }
 {
@@ -110,7 +107,7 @@ fn note_rule<'a>(
 
 fn note_pairs<'a>(
     pairs: &'a [(Term, Term)],
-    seen: &mut IndexSet<u32>,
+    seen: &mut Hints,
     names: &mut Names<'a>,
 ) -> Result<(), Fault>
     ensures ok { OnOk result (NotesAmong names.old names.new (flat_map names_in_term (both_parts pairs.now))) }
@@ -124,17 +121,14 @@ fn note_pairs<'a>(
 }
 
 // Notes names in a term, unless a term of its mark was seen.
-fn note_term_once<'a>(
-    term: &'a Term,
-    seen: &mut IndexSet<u32>,
-    names: &mut Names<'a>,
-) -> Result<(), Fault>
+fn note_term_once<'a>(term: &'a Term, seen: &mut Hints, names: &mut Names<'a>) -> Result<(), Fault>
     ensures ok { OnOk result (NotesAmong names.old names.new (names_in_term term.now)) }
     ensures err { IfErr result (λ fault. fault ≡ Memory) }
 {
-    if !seen.insert(term.mark())? {
+    if seen.get(term.mark()).is_some() {
         return Ok(());
     }
+    seen.insert(term.mark(), 0)?;
     match term.parts() {
         Parts::Variable(_, ty) => note_type(ty, names),
         Parts::Constant(name, ty) => {

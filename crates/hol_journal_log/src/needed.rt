@@ -5,6 +5,7 @@ ghost use Rattle.hol_model.specs.declared.fault.Fault.TheVariants.{Memory};
 ghost use Rattle.hol_journal.specs.Steps as steps;
 ghost use Rattle.hol_journal.specs.Steps.{JournalEntry};
 ghost use Rattle.hol_journal.specs.Views.{step_of, entry_of};
+ghost use Rattle.hol_logtext.specs.Lines.{text_in};
 ghost use Rattle.hol_journal_log.specs.Needed.{names_in_type, names_in_term, names_in, introduced_by, StandOnEarlier};
 ghost use Rattle.hol_journal_log.specs.Marking as marking;
 ghost use Rattle.hol_journal_log.specs.Marking.{Marks, Notes, AreCitedFrom, IsMarkedFrom};
@@ -43,8 +44,8 @@ impl<'a> Names<'a> {
         }
     }
 
-    // Whether a name is noted.
-    fn contains(&self, name: &str) -> bool
+    /// Whether a name is noted.
+    pub(crate) fn contains(&self, name: &str) -> bool
         ensures { result ≡ marking.is_noted self.now (Some name.now) }
     {
         self.names.contains(&name)
@@ -93,6 +94,32 @@ pub(crate) fn mark_named<'a>(
         name_stored(recorder, count - 1 - behind, marks, names, is_more)?;
     }
     Ok(())
+}
+
+/// The names that entries introduce which are not marked.
+pub(crate) fn unmarked_names<'a>(recorder: &'a Recorder, marks: &[bool]) -> Result<Names<'a>, Fault>
+    ensures { IfErr result (λ fault. fault ≡ Memory) }
+{
+    let mut names = Names::new(recorder.alloc());
+    for place in 0..marks.len() {
+        if !marks[place] {
+            note_stored(recorder, place, &mut names)?;
+        }
+    }
+    Ok(names)
+}
+
+// Notes the name that the entry of a number introduces, if there is one.
+fn note_stored<'a>(recorder: &'a Recorder, place: usize, names: &mut Names<'a>) -> Result<(), Fault>
+    ensures { IfErr result (λ fault. fault ≡ Memory) }
+{
+    let Some(entry) = recorder.stored(place)? else {
+        return Ok(());
+    };
+    match introduced(entry) {
+        Some(name) => names.note(name),
+        None => Ok(()),
+    }
 }
 
 // So many marks, of which those of these numbers are set.
@@ -196,15 +223,25 @@ fn note_mentioned<'a>(entry: &'a Entry, names: &mut Names<'a>) -> Result<(), Fau
     }
 }
 
+// The name that the entry introduces.
+fn introduced(entry: &Entry) -> Option<&str>
+    ensures { text_in result ≡ introduced_by (entry_of entry.now) }
+{
+    match entry {
+        Entry::Derived(_, _) => None,
+        Entry::Defined(name, _) => Some(name.as_str()),
+        Entry::DeclaredType(name) => Some(name.as_str()),
+        Entry::DeclaredConstant(name, _) => Some(name.as_str()),
+    }
+}
+
 // Whether the entry introduces a noted name.
 fn is_noted(names: &Names<'_>, entry: &Entry) -> bool
     ensures { result ≡ marking.is_noted names.now (introduced_by (entry_of entry.now)) }
 {
-    match entry {
-        Entry::Derived(_, _) => false,
-        Entry::Defined(name, _) => names.contains(name.as_str()),
-        Entry::DeclaredType(name) => names.contains(name.as_str()),
-        Entry::DeclaredConstant(name, _) => names.contains(name.as_str()),
+    match introduced(entry) {
+        Some(name) => names.contains(name),
+        None => false,
     }
 }
 

@@ -1,20 +1,20 @@
 // The lines of a log, as they are written.
-ghost use Rattle.std.specs.Prelude.{◌≡◌, ◌+◌, length, List, [], ◌∷◌, ◌++◌, nat_eq, map, Some, slice_get, IfOk, IfErr, IfSome, OnOk, IsTrue, IsFalse};
+ghost use Rattle.std.specs.Prelude.{◌≡◌, ◌≤◌, ◌<◌, ◌+◌, length, List, [], ◌∷◌, ◌++◌, nat_eq, map, Some, slice_get, IfOk, IfErr, IsErrOf, IfSome, OnOk, IsTrue, IsFalse, Contains};
 ghost use Rattle.std.specs.List.{list_any};
 ghost use Rattle.hol_model.specs.Terms.HolType.{bool_type};
 ghost use Rattle.hol_model.specs.Logic.Logic.{unary, binary};
 ghost use Rattle.hol_model.specs.Terms.NamedTerm.{NamedTerm};
 ghost use Rattle.hol_model.specs.Logs.LogLine.{LogLine};
-ghost use Rattle.hol_model.specs.Logs.LogLine.LogLine.{header_line, theorem_line, end_line};
-ghost use Rattle.hol_model.specs.Logs.LogLine.LogVersion.{second_version};
-ghost use Rattle.hol_model.specs.declared.fault.Fault.TheVariants.{Memory};
+ghost use Rattle.hol_model.specs.Logs.LogLine.LogLine.{declared_type_line, constant_line, theorem_line};
+ghost use Rattle.hol_model.specs.declared.fault.Fault.TheVariants.{Memory, TooLong};
 ghost use Rattle.hol_logtext.specs.Lines.{line_of, rule_of};
+ghost use Rattle.hol_logtext.specs.LogBytes.{bytes_of_lines};
 ghost use Rattle.hol_journal.specs.Steps.{JournalEntry, both_parts};
 ghost use Rattle.hol_journal.specs.Views.{step_of, entry_of};
 ghost use Rattle.hol_journal_log.specs.LogWriting as log;
-ghost use Rattle.hol_journal_log.specs.LogWriting.{Written, Claimed, nothing_written, number_of_entry, with_line};
+ghost use Rattle.hol_journal_log.specs.LogWriting.{Written, Claimed, nothing_written, number_of_entry, with_line, closed};
 ghost use Rattle.hol_model.specs.Terms.NamedTerm.{variable, constant};
-ghost use Rattle.hol_model.specs.Terms.Name.{is_identifier};
+ghost use Rattle.hol_model.specs.Terms.Name.{is_identifier, is_declared_type_name, is_constant_name};
 ghost use Rattle.hol_journal_log.specs.LogAccepted.{has_name};
 ghost use Rattle.hol_journal_log.specs.Marking.{Notes};
 ghost use Rattle.hol_journal_log.specs.WrittenNames.{name_in_line, names_in_lines, names_written};
@@ -24,32 +24,39 @@ ghost use Rattle.hol_journal_log.specs.Writer.{line_of_type, line_of_term, writt
 
 use crate::claim::Claim;
 use crate::connectives::is_binary;
+use crate::hints::Hints;
 use crate::lines::{TermLine, TypeLine};
 use crate::needed::Names;
+use crate::numbers::TheoremNumbers;
 use hol_journal::Recorder;
 use hol_journal::entry::{Entry, Rule};
 use hol_kernel::Thm;
-use hol_logtext::{Line, Rule as LogRule, Version};
-use hol_model::Fault;
+use hol_logtext::{Line, LogWriter, Rule as LogRule};
+use hol_model::{Fault, TEXT_BYTES_LIMIT};
 use hol_terms::{Parts, Term};
 use hol_types::{Ty, TypeParts};
-use indexmap::{IndexMap, IndexSet};
+use indexmap::IndexSet;
 use std::alloc::Global;
 use std::mem::replace;
 
-// How many types are looked through for that of connectives.
-const FIRST_TYPES: u32 = 8;
+// For how many bytes of the text there is to be room at first, for each entry.
+const BYTES_OF_ENTRY: usize = 32;
 
 /// The lines of a log so far. The places of types, terms and theorems are their numbers.
 #[derive(Drop)]
 pub(crate) struct Writer<'a> {
     types: IndexSet<TypeLine<'a>>,
     terms: IndexSet<TermLine<'a>>,
-    // Numbers of terms, by the marks of these terms. Nothing is said of them: each is tested where it is used.
-    hints: IndexMap<u32, u32>,
-    // The entries whose theorems have lines.
-    theorems: IndexSet<usize>,
-    lines: Vec<Line<'a>>,
+    theorems: TheoremNumbers,
+    log: LogWriter,
+    // Names that no marked entry introduces, and whether one of them is written.
+    missing: Names<'a>,
+    is_missing: bool,
+    // Numbers of terms, under the marks of these terms; the number of the type of connectives; the numbers of the hypotheses of the last claim.
+    // Nothing is said of these: each is tested where it is used.
+    hints: Hints,
+    connective: u32,
+    hypotheses: Vec<u32>,
 }
 
 // A place as a number of a log.
@@ -64,17 +71,27 @@ fn number(place: usize) -> Result<u32, Fault>
 }
 
 impl<'a> Writer<'a> {
-    /// Nothing is written.
-    pub(crate) fn new(alloc: Global) -> Writer<'a>
-        ensures { written result ≡ nothing_written }
+    /// Nothing is written, but the header. There is room for the lines of so many entries.
+    pub(crate) fn new(
+        alloc: Global,
+        missing: Names<'a>,
+        entries: usize,
+    ) -> Result<Writer<'a>, Fault>
+        ensures ok { IfOk result (λ writer. written writer ≡ nothing_written) }
+        ensures err { IfErr result (λ fault. fault ≡ Memory) }
     {
-        Writer {
+        let bytes = entries.saturating_mul(BYTES_OF_ENTRY).min(TEXT_BYTES_LIMIT);
+        Ok(Writer {
             types: IndexSet::new(alloc),
-            terms: IndexSet::new(alloc),
-            hints: IndexMap::new(alloc),
-            theorems: IndexSet::new(alloc),
-            lines: Vec::new(alloc),
-        }
+            terms: IndexSet::with_capacity(alloc, entries)?,
+            theorems: TheoremNumbers::new(alloc),
+            log: LogWriter::new(alloc, bytes)?,
+            missing,
+            is_missing: false,
+            hints: Hints::new(alloc)?,
+            connective: 0,
+            hypotheses: Vec::new(alloc),
+        })
     }
 
     // Puts the line of a type, unless it is there.
@@ -88,7 +105,7 @@ impl<'a> Writer<'a> {
         if !is_new {
             return number(place);
         }
-        self.lines.push(line.line())?;
+        self.log.write(&line.line())?;
         number(place)
     }
 
@@ -103,7 +120,7 @@ impl<'a> Writer<'a> {
         if !is_new {
             return number(place);
         }
-        self.lines.push(line.line())?;
+        self.log.write(&line.line())?;
         number(place)
     }
 
@@ -124,7 +141,48 @@ impl<'a> Writer<'a> {
                 let codomain = self.type_number(codomain)?;
                 self.put_type(TypeLine::Function(domain, codomain))
             }
-            TypeParts::Declared(name) => self.put_type(TypeLine::Declared(name)),
+            TypeParts::Declared(name) => self.put_declared(name),
+        }
+    }
+
+    // Puts the line of a declared type, and looks whether its name is missing.
+    fn put_declared(&mut self, name: &'a str) -> Result<u32, Fault>
+        requires { IsTrue (is_declared_type_name name.now) }
+        ensures ok { IfOk result (IsTypeLineWritten (written self.old) (written self.new) (declared_type_line name.now)) }
+        ensures named { OnOk result (KeepsNames (written self.old) (written self.new)) }
+        ensures err { IfErr result (λ fault. fault ≡ Memory) }
+    {
+        self.look_for(name);
+        self.put_type(TypeLine::Declared(name))
+    }
+
+    // Puts the line of a constant of a type that has a number. It looks whether the name is missing, and whether that is the type of connectives.
+    fn put_constant(&mut self, name: &'a str, ty: u32) -> Result<u32, Fault>
+        requires { IsTrue (is_constant_name name.now) }
+        ensures ok { IfOk result (IsTermLineWritten (written self.old) (written self.new) (constant_line name.now ty)) }
+        ensures named { OnOk result (KeepsNames (written self.old) (written self.new)) }
+        ensures err { IfErr result (λ fault. fault ≡ Memory) }
+    {
+        self.look_for(name);
+        self.look_at_type(ty);
+        self.put_term(TermLine::Constant(name, ty))
+    }
+
+    // Looks whether a name is missing.
+    fn look_for(&mut self, name: &str)
+        ensures { written self.new ≡ written self.old }
+    {
+        if self.missing.contains(name) {
+            self.is_missing = true;
+        }
+    }
+
+    // Looks whether the type of connectives is written under a number.
+    fn look_at_type(&mut self, number: u32)
+        ensures { written self.new ≡ written self.old }
+    {
+        if self.is_binary_at(number) {
+            self.connective = number;
         }
     }
 
@@ -211,16 +269,15 @@ impl<'a> Writer<'a> {
         }
     }
 
-    // The number of the type of connectives of two formulas, where it is among the first.
+    // The number of the type of connectives of two formulas, where it is known.
     fn binary_number(&self) -> Option<u32>
         ensures { IfSome result (IsTypeWritten (written self.now) (written self.now) binary) }
     {
-        for number in 0..FIRST_TYPES {
-            if self.is_binary_at(number) {
-                return Some(number);
-            }
+        if self.is_binary_at(self.connective) {
+            Some(self.connective)
+        } else {
+            None
         }
-        None
     }
 
     // Whether a type is written under a number, where that of connectives is known.
@@ -319,9 +376,9 @@ impl<'a> Writer<'a> {
     fn known_number(&self, term: &Term) -> Option<u32>
         ensures { IfSome result (IsTermWritten (written self.now) (written self.now) term.now) }
     {
-        let (_, _, hint) = self.hints.get_full(&term.mark())?;
-        if self.is_written_at(*hint, term) {
-            Some(*hint)
+        let hint = self.hints.get(term.mark())?;
+        if self.is_written_at(hint, term) {
+            Some(hint)
         } else {
             None
         }
@@ -368,7 +425,7 @@ impl<'a> Writer<'a> {
             Parts::Variable(name, ty) => self.variable_number(name, ty),
             Parts::Constant(name, ty) => {
                 let ty = self.type_number(ty)?;
-                self.put_term(TermLine::Constant(name, ty))
+                self.put_constant(name, ty)
             }
             Parts::Combination(function, argument) => {
                 let function = self.term_number(function)?;
@@ -399,10 +456,7 @@ impl<'a> Writer<'a> {
         ensures ok { IfOk result (λ number. number ≡ number_of_entry (written self.now) entry) }
         ensures err { IfErr result (λ fault. fault ≡ Memory) }
     {
-        match self.theorems.get_index_of(&entry) {
-            Some(place) => number(place),
-            None => number(self.theorems.len()),
-        }
+        number(self.theorems.number(entry))
     }
 
     // Writes a term, which may be among some numbers from a place on.
@@ -442,15 +496,20 @@ impl<'a> Writer<'a> {
         Ok(())
     }
 
-    // The numbers of the hypotheses of the last line, where it is a claim.
-    fn last_hypotheses(&self, alloc: Global) -> Result<Vec<u32>, Fault>
+    // Takes the numbers of the hypotheses of the last claim.
+    fn take_hypotheses(&mut self, alloc: Global) -> Vec<u32>
+        ensures { written self.new ≡ written self.old }
+    {
+        replace(&mut self.hypotheses, Vec::new(alloc))
+    }
+
+    // Keeps the numbers of the hypotheses of a claim.
+    fn keep_hypotheses(&mut self, numbers: &[u32]) -> Result<(), Fault>
+        ensures ok { OnOk result (written self.new ≡ written self.old) }
         ensures err { IfErr result (λ fault. fault ≡ Memory) }
     {
-        let mut numbers = Vec::new(alloc);
-        if let Some(Line::Claim(_, _, _, hypotheses)) = self.lines.last() {
-            numbers.extend_from_slice(hypotheses)?;
-        }
-        Ok(numbers)
+        self.hypotheses.extend_from_slice(numbers)?;
+        Ok(())
     }
 
     // Writes pairs of terms, from left to right.
@@ -560,9 +619,8 @@ impl<'a> Writer<'a> {
         ensures named { OnOk result (KeepsNames (written self.old) (written self.new)) }
         ensures err { IfErr result (λ fault. fault ≡ Memory) }
     {
-        self.lines.push(Line::Theorem(line))?;
-        self.theorems.insert(entry)?;
-        Ok(())
+        self.log.write(&Line::Theorem(line))?;
+        self.theorems.push(entry)
     }
 
     // Puts a line that is neither that of a type nor that of a term.
@@ -572,8 +630,7 @@ impl<'a> Writer<'a> {
         ensures named { OnOk result (KeepsNames (written self.old) (written self.new)) }
         ensures err { IfErr result (λ fault. fault ≡ Memory) }
     {
-        self.lines.push(line)?;
-        Ok(())
+        self.log.write(&line)
     }
 
     // Writes an entry.
@@ -614,9 +671,10 @@ impl<'a> Writer<'a> {
         ensures err { IfErr result (λ fault. fault ≡ Memory) }
     {
         let mut hypotheses = Vec::new(alloc);
-        let known = self.last_hypotheses(alloc)?;
+        let known = self.take_hypotheses(alloc);
         let conclusion = self.term_number(theorem.concl())?;
         self.term_numbers(theorem.hyps(), &known, &mut hypotheses)?;
+        self.keep_hypotheses(&hypotheses)?;
         let theorem = self.theorem_number(entry)?;
         self.put_line(Line::Claim(name, theorem, conclusion, hypotheses))
     }
@@ -638,6 +696,29 @@ impl<'a> Writer<'a> {
             self.write_marked(alloc, recorder, at, marks[at])?;
         }
         Ok(())
+    }
+
+    /// Writes the marked entries, up to the first that mentions a missing name. It is told whether none does. Refusal: Memory, also where one
+    /// of them is not kept.
+    pub(crate) fn write_until_missing(
+        &mut self,
+        alloc: Global,
+        recorder: &'a Recorder,
+        marks: &[bool],
+    ) -> Result<bool, Fault>
+        requires one_each { length marks.now ≡ length recorder.now.entries }
+        requires begun { written self.old ≡ nothing_written }
+        ensures ok { IfOk result (λ is_whole. IsTrue is_whole → written self.new ≡ log.write_entries 0 recorder.now.entries marks.now nothing_written) }
+        ensures named { OnOk result (KeepsNames (written self.old) (written self.new)) }
+        ensures err { IfErr result (λ fault. fault ≡ Memory) }
+    {
+        for at in 0..marks.len() {
+            if self.is_missing {
+                return Ok(false);
+            }
+            self.write_marked(alloc, recorder, at, marks[at])?;
+        }
+        Ok(!self.is_missing)
     }
 
     // Writes the entry of a number if it is marked.
@@ -725,22 +806,16 @@ impl<'a> Writer<'a> {
         Ok(())
     }
 
-    /// Puts the header in front of the lines, and the end behind them.
-    pub(crate) fn enclose(&mut self, claims: usize) -> Result<(), Fault>
-        ensures ok { OnOk result ((written self.new).lines ≡ header_line second_version ∷ ((written self.old).lines ++ end_line claims ∷ [])) }
-        ensures named { OnOk result (KeepsNames (written self.old) (written self.new)) }
-        ensures err { IfErr result (λ fault. fault ≡ Memory) }
+    /// Puts the end behind the lines, and gives the text away. Refusals: Memory, and TooLong, where the text would be longer than the limit.
+    pub(crate) fn finish(&mut self, alloc: Global, claims: usize) -> Result<Vec<u8>, Fault>
+        ensures ok { IfOk result (λ text. text.items ≡ bytes_of_lines (closed claims (written self.old).lines)) }
+        ensures within_limit { IfOk result (λ text. length text.items ≤ TEXT_BYTES_LIMIT) }
+        ensures too_long { IsErrOf result TooLong → TEXT_BYTES_LIMIT < length (bytes_of_lines (closed claims (written self.old).lines)) }
+        ensures refusals { IfErr result (Contains (TooLong ∷ Memory ∷ [])) }
     {
         let claims = number(claims)?;
-        self.lines.insert(0, Line::Header(Version::Second))?;
-        self.lines.push(Line::End(claims))?;
-        Ok(())
-    }
-
-    /// Gives the lines away.
-    pub(crate) fn take_lines(&mut self, alloc: Global) -> Vec<Line<'a>>
-        ensures { map line_of result.items ≡ (written self.old).lines }
-    {
-        replace(&mut self.lines, Vec::new(alloc))
+        self.log.write(&Line::End(claims))?;
+        let log = replace(&mut self.log, LogWriter::new(alloc, 0)?);
+        log.finish()
     }
 }

@@ -7,7 +7,7 @@ pub returns-then-not-mark-clause-below : goal.returns-then-not-mark-clause-below
 returns-then-not-mark-clause-below c = unmarked_below c.args.number (written c.args.self.now) c.requires
 
 pub write_entry-requires : goal.write_entry-requires
-write_entry-requires c = none_there c.args.number c.args.self.now.theorems.keys c.requires.below
+write_entry-requires c = none_there c.args.number c.args.self.now.theorems c.requires.below
 
 pub returns-in-Some-clause-below : goal.returns-in-Some-clause-below
 returns-in-Some-clause-below c =

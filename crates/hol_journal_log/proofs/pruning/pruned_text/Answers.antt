@@ -1,7 +1,7 @@
 use Rattle.hol_journal_log.specs.Claims.{claims_of}
 use Rattle.hol_journal_log.proofs.EarlierEntries.{stands-on-earlier}
 use Rattle.hol_journal_log.proofs.PrunedLemmas.{cited_within}
-use Rattle.hol_journal_log.proofs.pruning.claims_log.Goals as goal
+use Rattle.hol_journal_log.proofs.pruning.pruned_text.Goals as goal
 
 pub cited-requires-clause-earlier : goal.cited-requires-clause-earlier
 cited-requires-clause-earlier c = stands-on-earlier c.args.recorder.now c.stored-entry.ensures.journal
