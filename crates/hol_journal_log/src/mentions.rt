@@ -130,11 +130,6 @@ fn note_term_once<'a>(term: &'a Term, seen: &mut Hints, names: &mut Names<'a>) -
     }
     seen.insert(term.mark(), 0)?;
     match term.parts() {
-        Parts::Variable(_, ty) => note_type(ty, names),
-        Parts::Constant(name, ty) => {
-            names.note(name)?;
-            note_type(ty, names)
-        }
         Parts::Combination(function, argument) => {
             note_term_once(function, seen, names)?;
             note_term_once(argument, seen, names)
@@ -142,6 +137,11 @@ fn note_term_once<'a>(term: &'a Term, seen: &mut Hints, names: &mut Names<'a>) -
         Parts::Abstraction(_, ty, body) => {
             note_type(ty, names)?;
             note_term_once(body, seen, names)
+        }
+        Parts::Variable(_, ty) => note_type(ty, names),
+        Parts::Constant(name, ty) => {
+            names.note(name)?;
+            note_type(ty, names)
         }
     }
 }

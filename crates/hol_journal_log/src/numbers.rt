@@ -1,5 +1,5 @@
-// The numbers of the theorems of a log.
-ghost use Rattle.std.specs.Prelude.{◌≡◌, [], ◌∷◌, ◌++◌, IfErr, OnOk, IsFalse, nat_eq};
+// The numbers of a log.
+ghost use Rattle.std.specs.Prelude.{◌≡◌, [], ◌∷◌, ◌++◌, IfOk, IfErr, OnOk, IsFalse, nat_eq};
 ghost use Rattle.std.specs.List.{list_any};
 ghost use Rattle.hol_model.specs.declared.fault.Fault.TheVariants.{Memory};
 ghost use Rattle.hol_journal_log.specs.LogWriting.{theorem_number};
@@ -61,6 +61,17 @@ impl TheoremNumbers {
         note_place(&mut self.places, entry, self.entries.len())?;
         self.entries.push(entry)?;
         Ok(())
+    }
+}
+
+/// A place as a number of a log.
+pub(crate) fn number(place: usize) -> Result<u32, Fault>
+    ensures ok { IfOk result (λ number. number ≡ place) }
+    ensures err { IfErr result (λ fault. fault ≡ Memory) }
+{
+    match u32::try_from(place) {
+        Ok(number) => Ok(number),
+        Err(_) => Err(Fault::Memory),
     }
 }
 

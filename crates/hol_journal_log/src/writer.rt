@@ -27,7 +27,7 @@ use crate::connectives::is_binary;
 use crate::hints::Hints;
 use crate::lines::{TermLine, TypeLine};
 use crate::needed::Names;
-use crate::numbers::TheoremNumbers;
+use crate::numbers::{TheoremNumbers, number};
 use hol_journal::Recorder;
 use hol_journal::entry::{Entry, Rule};
 use hol_kernel::Thm;
@@ -52,22 +52,10 @@ pub(crate) struct Writer<'a> {
     // Names that no marked entry introduces, and whether one of them is written.
     missing: Names<'a>,
     is_missing: bool,
-    // Numbers of terms, under the marks of these terms; the number of the type of connectives; the numbers of the hypotheses of the last claim.
-    // Nothing is said of these: each is tested where it is used.
+    // Hints, tested where they are used: numbers of terms under their marks, of the type of connectives, and of the last claim's hypotheses.
     hints: Hints,
     connective: u32,
     hypotheses: Vec<u32>,
-}
-
-// A place as a number of a log.
-fn number(place: usize) -> Result<u32, Fault>
-    ensures ok { IfOk result (λ number. number ≡ place) }
-    ensures err { IfErr result (λ fault. fault ≡ Memory) }
-{
-    match u32::try_from(place) {
-        Ok(number) => Ok(number),
-        Err(_) => Err(Fault::Memory),
-    }
 }
 
 impl<'a> Writer<'a> {
@@ -269,17 +257,6 @@ impl<'a> Writer<'a> {
         }
     }
 
-    // The number of the type of connectives of two formulas, where it is known.
-    fn binary_number(&self) -> Option<u32>
-        ensures { IfSome result (IsTypeWritten (written self.now) (written self.now) binary) }
-    {
-        if self.is_binary_at(self.connective) {
-            Some(self.connective)
-        } else {
-            None
-        }
-    }
-
     // Whether a type is written under a number, where that of connectives is known.
     fn has_constant_type(&self, connective: Option<u32>, number: u32, ty: &Ty) -> bool
         requires { IfSome connective (IsTypeWritten (written self.now) (written self.now) binary) }
@@ -359,10 +336,11 @@ impl<'a> Writer<'a> {
     fn connective_in(&self, term: &Term) -> Option<u32>
         ensures { IfSome result (IsTypeWritten (written self.now) (written self.now) binary) }
     {
-        if term.nodes() == 1 {
-            return None;
+        if term.nodes() > 1 && self.is_binary_at(self.connective) {
+            Some(self.connective)
+        } else {
+            None
         }
-        self.binary_number()
     }
 
     // Whether a term is written under a number.

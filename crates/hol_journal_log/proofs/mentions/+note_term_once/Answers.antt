@@ -5,7 +5,7 @@ use Rattle.hol_journal_log.proofs.mentions.+note_term_once.Goals as goal
 
 pub returns-in-Variable-clause-ok : goal.returns-in-Variable-clause-ok
 returns-in-Variable-clause-ok t c =
-    among_noted c.note_type.result c.args.names.now c.note_type.new.names _ _ (sym (ap names_in_term c.in-Variable.ensures.value)) c.note_type.ensures.ok
+    among_noted c.note_type-in-Variable.result c.args.names.now c.note_type-in-Variable.new.names _ _ (sym (ap names_in_term c.in-Variable.ensures.value)) c.note_type-in-Variable.ensures.ok
 
 pub returns-in_ok-note-in-Constant-clause-ok : goal.returns-in_ok-note-in-Constant-clause-ok
 returns-in_ok-note-in-Constant-clause-ok t c =
@@ -19,5 +19,5 @@ returns-in_ok-note_term_once-in-Combination-clause-ok t c =
 
 pub returns-in_ok-note_type-in-Abstraction-clause-ok : goal.returns-in_ok-note_type-in-Abstraction-clause-ok
 returns-in_ok-note_type-in-Abstraction-clause-ok t c =
-    among_two c.note_term_once-in-Abstraction.result c.args.names.now c.note_type-in-Abstraction.new.names c.note_term_once-in-Abstraction.new.names _ _ _
+    among_two c.note_term_once-in-Abstraction.result c.args.names.now c.note_type.new.names c.note_term_once-in-Abstraction.new.names _ _ _
     (sym (ap names_in_term c.in-Abstraction.ensures.value)) (noted_among _ _ _ c.in_ok-note_type-in-Abstraction.ensures.ok) c.note_term_once-in-Abstraction.ensures.ok
