@@ -39,8 +39,28 @@ pub(crate) fn pruned_text<'a>(
     let mut marks = cited(recorder, &claimed)?;
     let missing = unmarked_names(recorder, &marks)?;
     let mut writer = Writer::new(alloc, missing, marked(&marks))?;
-    write_needed(recorder, &claimed, &mut marks, &mut writer)?;
-    text_written(recorder, &marks, claims, &mut writer)
+    needed_text(recorder, claims, &claimed, &mut marks, &mut writer)
+}
+
+// Writes the entries that the claimed ones need, and the claims, and takes the text.
+fn needed_text<'a>(
+    recorder: &'a Recorder,
+    claims: &[Claim<'a>],
+    claimed: &[usize],
+    marks: &mut Vec<bool>,
+    writer: &mut Writer<'a>,
+) -> Result<Vec<u8>, Fault>
+    requires earlier { StandOnEarlier recorder.now.entries }
+    requires claimed { claimed.now ≡ entries_of_claims (claims_of claims.now) }
+    requires cited { AreCitedFrom recorder.now.entries claimed.now 0 marks.old.items }
+    requires begun { written writer.old ≡ nothing_written }
+    ensures ok { IfOk result (λ text. IsNamedText recorder.now (claims_of claims.now) text.items) }
+    ensures within_limit { IfOk result (λ text. length text.items ≤ TEXT_BYTES_LIMIT) }
+    ensures too_long { IsErrOf result TooLong → IsPastLimit recorder.now (claims_of claims.now) }
+    ensures refusals { IfErr result (Contains (TooLong ∷ Memory ∷ [])) }
+{
+    write_needed(recorder, claimed, marks, writer)?;
+    text_written(recorder, marks, claims, writer)
 }
 
 // How many marks are set.

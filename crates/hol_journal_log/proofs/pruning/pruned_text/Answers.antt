@@ -10,5 +10,5 @@ pub cited-requires-clause-within : goal.cited-requires-clause-within
 cited-requires-clause-within c =
     rw c.deref.ensures.value (cited_within c.args.recorder.now (claims_of c.args.claims.now) c.in_ok-claimed.claimed.items c.requires c.in_ok-claimed.ensures.ok)
 
-pub write_needed-requires-clause-earlier : goal.write_needed-requires-clause-earlier
-write_needed-requires-clause-earlier c = stands-on-earlier c.args.recorder.now c.stored-entry.ensures.journal
+pub needed_text-requires-clause-earlier : goal.needed_text-requires-clause-earlier
+needed_text-requires-clause-earlier c = stands-on-earlier c.args.recorder.now c.stored-entry.ensures.journal
