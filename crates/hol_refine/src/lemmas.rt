@@ -1,8 +1,6 @@
 // Theorems that become lemmas, and the steps by them.
-ghost use Rattle.std.specs.Prelude.{◌≡◌, Some, Ok, length, OnOk, OnErr, IfErr};
+ghost use Rattle.std.specs.Prelude.{◌≡◌, Ok, length, OnOk, OnErr, IfErr};
 ghost use Rattle.hol_model.specs.declared.fault.Fault.TheVariants.{Memory};
-ghost use Rattle.hol_model.specs.Terms.NamedTerm.{NamedTerm};
-ghost use Rattle.hol_model.specs.Kernel.Rules.{dest_equation};
 ghost use Rattle.hol_model.specs.Goals.Replays.{with_lemma, IsKnownGoal};
 ghost use Rattle.hol_model.specs.Refining.Refiners as refiners;
 ghost use Rattle.hol_laws_refiners.specs.Laws.{IsEquationOf};
@@ -37,19 +35,6 @@ fn add_lemma(library: &mut Library, theorem: Rec) -> Result<(), Fault>
     }
 }
 
-// The step by an equation of the goal's target, which is to be the next lemma. Refused: Memory.
-fn step_by_equation(library: &Library, goal: &Goal, theorem: &Rec) -> Result<Step, Fault>
-    requires { IsEquationOf goal.now.concl theorem.now.theorem }
-    ensures { (sides : NamedTerm × NamedTerm) → dest_equation theorem.now.theorem.conclusion ≡ Some sides
-        → AnswersStep (Ok (refiners.converted (length (store_in library.now).lemmas) (goal_of goal.now) sides.1)) (step_in result) }
-{
-    let alloc = library.recorder.alloc();
-    match equation_parts(theorem.theorem().concl()) {
-        Some(sides) => converted(alloc, library.store.lemma_count(), goal, sides.right),
-        None => unreachable!(),
-    }
-}
-
 // The step that closes a goal by a theorem, which is to be the next lemma. Refused: Memory.
 fn step_by_theorem(library: &Library) -> Result<Step, Fault>
     ensures { AnswersStep (Ok (refiners.proved_by_lemma (length (store_in library.now).lemmas))) (step_in result) }
@@ -73,7 +58,15 @@ pub(crate) fn by_equation(library: &mut Library, goal: &Goal, theorem: Rec) -> R
     if !are_assumed(theorem.theorem().hyps(), goal) {
         return Err(Fault::RefineFails);
     }
-    let step = step_by_equation(library, goal, &theorem)?;
+    let Some(sides) = equation_parts(theorem.theorem().concl()) else {
+        unreachable!()
+    };
+    let step = converted(
+        library.recorder.alloc(),
+        library.store.lemma_count(),
+        goal,
+        sides.right,
+    )?;
     add_lemma(library, theorem)?;
     Ok(step)
 }
