@@ -14,7 +14,7 @@ returns-clause-ok c =
     let state = state_of manager in
     let is_proved : (theorem : Theorem) → top_outcome state.proof ≡ Ok theorem → IsProved state theorem = λ theorem same.
     elim c.match-top_thm.branch [
-      | in-Ok w ↦ top_proved manager w.in-Ok.theorem.now theorem c.requires c.sound.ensures (rw w.thm.ensures at w.well_formed.ensures)
+      | in-Ok w ↦ top_proved manager w.in-Ok.theorem.now theorem c.requires c.sound.ensures (rw w.thm.ensures at w.well_formed-in-Ok.ensures)
           (w.in-Ok.ensures.made (journal_in manager) c.requires.made) w.in-Ok.ensures.outcome same
       | in-Err w ↦ no_top state.proof state w.in-Err.field-0 theorem w.in-Err.ensures.outcome same
     ] in
