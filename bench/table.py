@@ -18,13 +18,12 @@ import sys
 import tempfile
 
 BENCH = pathlib.Path(__file__).resolve().parent
-ENOUGH, LIMIT, MEMORY = 10.0, 60, 3_000_000_000
+ENOUGH, LIMIT, MEMORY, TURNS = 10.0, 60, 3_000_000_000, 25
 
 # what is said of it; the generator, with {} for its size; the size, and half of it; how it is run; the peer's arguments, with
 # {log} for the log that both check
 WORKS = [
     ("{} formulas assumed, joined, discharged, undischarged", "hypotheses.sh {}", 600, 300, "run", "hypotheses {}"),
-    ("the same, with the log", "hypotheses.sh {}", 600, 300, "log", None),
     ("INST ten times over 2^{} leaves", "printing.sh INST {}", 16, 15, "run", "printing INST {}"),
     ("INST_TYPE ten times over 2^{} leaves", "printing.sh INST_TYPE {}", 16, 15, "run", "printing INST_TYPE {}"),
     ("SPEC through {} `!`, one by one", "works.py spec {}", 200, 100, "run", "spec {}"),
@@ -44,9 +43,7 @@ WORKS = [
     ("{} times `e HOST peel`", "works.py peels {}", 400, 200, "run", "peels {}"),
     ("{} times `HOST peel` in one `e`", "works.py peel {}", 400, 200, "run", "peel {}"),
     ("{} conjuncts closed in one `e`", "works.py conjuncts {}", 800, 400, "run", "conjuncts {}"),
-    ("the same, with the log", "works.py conjuncts {}", 800, 400, "log", None),
     ("{} steps of one goal", "works.py steps {}", 1900, 950, "run", "steps {}"),
-    ("the same, with the log", "works.py steps {}", 1900, 950, "log", None),
     ("TAUT: an adder of {} bits, 13 atoms", "works.py adder {}", 4, None, "run", "taut"),
     ("TAUT: the parity of {} atoms", "works.py parity {}", 14, None, "run", "taut"),
     ("TAUT: `t ==> t`, t of {} places, 7 kB", "works.py itself imp {}", 1000, 500, "run", "taut"),
@@ -129,6 +126,21 @@ def own(program, how, script, room, start, runs):
     return least(command, script, room, figure, runs)
 
 
+def log_share(program, script, room, start):
+    """What the log costs besides, as a share of the run: the least figures of runs without it and with it, in turns."""
+    command, log, least_two, spent = [program, "run", str(script)], ["--log", str(room / "log")], [float("inf")] * 2, 0.0
+    for _ in range(TURNS):
+        for which, words in enumerate(([], log)):
+            seconds, _, status, errors = once(command + words, script, room)
+            if status not in (0, 1):
+                raise Failed(errors.strip().splitlines()[-1] if errors.strip() else f"status {status}")
+            least_two[which] = min(least_two[which], max(seconds - start, 0.0))
+            spent += seconds
+        if spent > ENOUGH:
+            break
+    return f"{(least_two[1] - least_two[0]) / least_two[0]:.2f}" if least_two[0] > 0.004 else ""
+
+
 def peers(peer, arguments, script, room, runs):
     """The figure of HOL Light."""
 
@@ -146,14 +158,16 @@ def told(seconds):
 
 def row(work, size, options, room, start, is_compared):
     """One row's cells, and its figure."""
-    _, generator, _, _, how, peer = work
+    title, generator, _, _, how, peer = work
     script = room / "script"
     written(generator.format(size), script)
     try:
         seconds, peak = own(options.program, how, script, room, start, options.runs)
-        cells = [told(seconds), f"{peak:.0f}"]
+        cells = [told(seconds), f"{peak:.0f}", ""]
+        if is_compared and how == "run" and "REPEAT" not in title:
+            cells[2] = log_share(options.program, script, room, start)
     except Failed as failed:
-        seconds, cells = None, [str(failed), ""]
+        seconds, cells = None, [str(failed), "", ""]
     log = script if how == "check log" else room / "log"
     arguments = [] if peer is None else [word.format(size, log=log) for word in peer.split()]
     has_failed = False
@@ -185,8 +199,8 @@ def tables(options):
     load = f"{os.getloadavg()[0] / os.cpu_count():.1f}"
     yield f"{datetime.date.today()}, {machine()}, sources at {commit}; up to {options.runs} runs of at most {LIMIT} s, beside a load of {load} for each processor."
     yield ""
-    yield "| work | `holp`, s | half | peak, MB | the same, s | ratio | its printer, s | ratio | rules, s |"
-    yield "|---|---|---|---|---|---|---|---|---|"
+    yield "| work | `holp`, s | half | peak, MB | its log | the same, s | ratio | its printer, s | ratio | rules, s |"
+    yield "|---|---|---|---|---|---|---|---|---|---|"
     with tempfile.TemporaryDirectory() as folder:
         room = pathlib.Path(folder)
         empty = room / "empty"
@@ -195,7 +209,7 @@ def tables(options):
         other = ""
         if options.hol_light is not None:
             other = told(least([options.hol_light, "empty"], empty, room, lambda seconds, _status, _errors: seconds, options.runs)[0])
-        yield f"| the start, which no other row counts | {told(start)} | | {peak:.0f} | {other} | | | | |"
+        yield f"| the start, which no other row counts | {told(start)} | | {peak:.0f} | | {other} | | | | |"
         for work in WORKS:
             title, generator, size, half, _, _ = work
             if options.only is not None and options.only not in title + generator:
