@@ -1,6 +1,6 @@
 #!/usr/bin/env python3
 """Measures the works of this folder and writes one table: `table.py PROGRAM [--hol-light PEER] [--only WORD] [--runs 5]
-[--limit 60] [--write FILE]`.
+[--limit 60] [--logs] [--write FILE]`.
 
 PROGRAM is a built `holp`, PEER what `hol_light.sh` builds. Each figure is the least of some runs (--runs, or fewer, where these
 take ten seconds), in seconds of the processor, without the start, which is a row of its own; a peak of memory is the most of
@@ -24,6 +24,7 @@ ENOUGH, LIMIT, MEMORY, TURNS = 10.0, 60, 3_000_000_000, 25
 # {log} for the log that both check
 WORKS = [
     ("{} formulas assumed, joined, discharged, undischarged", "hypotheses.sh {}", 600, 300, "run", "hypotheses {}"),
+    ("the same, with the log", "hypotheses.sh {}", 600, 300, "log", None),
     ("INST ten times over 2^{} leaves", "printing.sh INST {}", 16, 15, "run", "printing INST {}"),
     ("INST_TYPE ten times over 2^{} leaves", "printing.sh INST_TYPE {}", 16, 15, "run", "printing INST_TYPE {}"),
     ("SPEC through {} `!`, one by one", "works.py spec {}", 200, 100, "run", "spec {}"),
@@ -43,7 +44,9 @@ WORKS = [
     ("{} times `e HOST peel`", "works.py peels {}", 400, 200, "run", "peels {}"),
     ("{} times `HOST peel` in one `e`", "works.py peel {}", 400, 200, "run", "peel {}"),
     ("{} conjuncts closed in one `e`", "works.py conjuncts {}", 800, 400, "run", "conjuncts {}"),
+    ("the same, with the log", "works.py conjuncts {}", 800, 400, "log", None),
     ("{} steps of one goal", "works.py steps {}", 1900, 950, "run", "steps {}"),
+    ("the same, with the log", "works.py steps {}", 1900, 950, "log", None),
     ("TAUT: an adder of {} bits, 13 atoms", "works.py adder {}", 4, None, "run", "taut"),
     ("TAUT: the parity of {} atoms", "works.py parity {}", 14, None, "run", "taut"),
     ("TAUT: `t ==> t`, t of {} places, 7 kB", "works.py itself imp {}", 1000, 500, "run", "taut"),
@@ -163,11 +166,12 @@ def row(work, size, options, room, start, is_compared):
     written(generator.format(size), script)
     try:
         seconds, peak = own(options.program, how, script, room, start, options.runs)
-        cells = [told(seconds), f"{peak:.0f}", ""]
-        if is_compared and how == "run" and "REPEAT" not in title:
-            cells[2] = log_share(options.program, script, room, start)
+        cells = [told(seconds), f"{peak:.0f}"]
+        if options.logs:
+            is_logged = is_compared and how == "run" and "REPEAT" not in title
+            cells.append(log_share(options.program, script, room, start) if is_logged else "")
     except Failed as failed:
-        seconds, cells = None, [str(failed), "", ""]
+        seconds, cells = None, [str(failed), ""] + [""] * options.logs
     log = script if how == "check log" else room / "log"
     arguments = [] if peer is None else [word.format(size, log=log) for word in peer.split()]
     has_failed = False
@@ -199,8 +203,8 @@ def tables(options):
     load = f"{os.getloadavg()[0] / os.cpu_count():.1f}"
     yield f"{datetime.date.today()}, {machine()}, sources at {commit}; up to {options.runs} runs of at most {LIMIT} s, beside a load of {load} for each processor."
     yield ""
-    yield "| work | `holp`, s | half | peak, MB | its log | the same, s | ratio | its printer, s | ratio | rules, s |"
-    yield "|---|---|---|---|---|---|---|---|---|---|"
+    yield f"| work | `holp`, s | half | peak, MB |{' its log |' * options.logs} the same, s | ratio | its printer, s | ratio | rules, s |"
+    yield "|---" * (9 + options.logs) + "|"
     with tempfile.TemporaryDirectory() as folder:
         room = pathlib.Path(folder)
         empty = room / "empty"
@@ -209,7 +213,7 @@ def tables(options):
         other = ""
         if options.hol_light is not None:
             other = told(least([options.hol_light, "empty"], empty, room, lambda seconds, _status, _errors: seconds, options.runs)[0])
-        yield f"| the start, which no other row counts | {told(start)} | | {peak:.0f} | | {other} | | | | |"
+        yield f"| the start, which no other row counts | {told(start)} | | {peak:.0f} |{' |' * options.logs} {other} | | | | |"
         for work in WORKS:
             title, generator, size, half, _, _ = work
             if options.only is not None and options.only not in title + generator:
@@ -232,6 +236,7 @@ def main():
     parser.add_argument("--only", help="rows whose title or generator has this word")
     parser.add_argument("--runs", type=int, default=5)
     parser.add_argument("--limit", type=int, default=LIMIT, help="seconds of the processor that a run may take")
+    parser.add_argument("--logs", action="store_true", help="one column more: what the log costs besides, as a share of the run, both run in turns")
     parser.add_argument("--write", type=pathlib.Path, help="the page that gets the tables")
     options = parser.parse_args()
     LIMIT = options.limit
