@@ -24,7 +24,6 @@ ENOUGH, LIMIT, MEMORY, TURNS = 10.0, 60, 3_000_000_000, 25
 # {log} for the log that both check
 WORKS = [
     ("{} formulas assumed, joined, discharged, undischarged", "hypotheses.sh {}", 600, 300, "run", "hypotheses {}"),
-    ("the same, with the log", "hypotheses.sh {}", 600, 300, "log", None),
     ("INST ten times over 2^{} leaves", "printing.sh INST {}", 16, 15, "run", "printing INST {}"),
     ("INST_TYPE ten times over 2^{} leaves", "printing.sh INST_TYPE {}", 16, 15, "run", "printing INST_TYPE {}"),
     ("SPEC through {} `!`, one by one", "works.py spec {}", 200, 100, "run", "spec {}"),
@@ -44,9 +43,7 @@ WORKS = [
     ("{} times `e HOST peel`", "works.py peels {}", 400, 200, "run", "peels {}"),
     ("{} times `HOST peel` in one `e`", "works.py peel {}", 400, 200, "run", "peel {}"),
     ("{} conjuncts closed in one `e`", "works.py conjuncts {}", 800, 400, "run", "conjuncts {}"),
-    ("the same, with the log", "works.py conjuncts {}", 800, 400, "log", None),
     ("{} steps of one goal", "works.py steps {}", 1900, 950, "run", "steps {}"),
-    ("the same, with the log", "works.py steps {}", 1900, 950, "log", None),
     ("TAUT: an adder of {} bits, 13 atoms", "works.py adder {}", 4, None, "run", "taut"),
     ("TAUT: the parity of {} atoms", "works.py parity {}", 14, None, "run", "taut"),
     ("TAUT: `t ==> t`, t of {} places, 7 kB", "works.py itself imp {}", 1000, 500, "run", "taut"),
