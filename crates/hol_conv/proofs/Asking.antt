@@ -16,6 +16,7 @@ use Rattle.hol_theorem_store.specs.declared.store.Store.{Store}
 use Rattle.hol_theorem_library.specs.Library.{IsLibrary, IsContinued, store_in}
 use Rattle.hol_theorem_library.specs.declared.library.Library.{Library}
 use Rattle.hol_conv.specs.Makes.{Makes, IsRightSide}
+use Rattle.hol_conv.proofs.Standing.{made-for-later}
 use Rattle.hol_conv.specs.declared.converted.Converted.{Converted}
 use Rattle.hol_conv.specs.declared.converted.Converted.TheVariants.{Same, Changed}
 use Rattle.hol_conv.specs.Converted.{theorem_of, answered, IsAnswerOf, IsHeldIn, MakesAnswer}
@@ -66,11 +67,11 @@ answers-after before makes = record { library = makes.library; continued = conti
 -- what was answered stays an answer
 pub still-answers : {old new : Library} (t : NamedTerm) (answer : Converted) → IsContinued old new → IsAnswerOf old t answer → IsAnswerOf new t answer
 still-answers t Same continued is = is
-still-answers {old} {new} t (Changed made) continued is = journals-grow.stays old.recorder new.recorder made continued.grown is
+still-answers t (Changed made stands) continued is = made-for-later stands made continued is
 
 pub held-answer : (library : Library) (t : NamedTerm) (result : Result Converted Fault) → IfOk result (IsAnswerOf library t) → IfOk result (IsHeldIn library)
 held-answer library t (Ok Same) is = tt
-held-answer library t (Ok (Changed made)) is = is
+held-answer library t (Ok (Changed made stands)) is = is.is_made
 held-answer library t (Err fault) is = tt
 
 pub side-later : {old new : Library} {right : NamedTerm} (t : NamedTerm) (answer : Converted) → IsContinued old new → IsRightSide (theorem_of old.recorder.theory t answer) right

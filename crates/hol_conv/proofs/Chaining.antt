@@ -2,7 +2,7 @@
 use Rattle.std.proofs.Common.{◌≡◌, ℕ, suc, List, [], ◌∷◌, ◌++◌, length, append-nil, inl, inr, refl, sym, ap, ◌∙◌, subst, if◌then◌else◌, Bool, true, false, Some, Result, Ok, Err, IfOk}
 use Rattle.std.specs.List.{All}
 use Rattle.std.proofs.lemmas.List.{map-append}
-use Rattle.std.proofs.lemmas.List.Elements.{All-nil, All-weaker, All-push}
+use Rattle.std.proofs.lemmas.List.Elements.{All-nil, All-weaker, All-push, All-pop}
 use Rattle.hol_model.specs.declared.fault.Fault.{Fault}
 use Rattle.hol_model.specs.declared.fault.Fault.TheVariants.{Memory, StepLimit}
 use Rattle.hol_model.specs.Terms.NamedTerm.{NamedTerm, equation, is_within_limits}
@@ -18,14 +18,16 @@ use Rattle.hol_journal.specs.Journal.{Recorded, IsMade, theorem_in}
 use Rattle.hol_journal.proofs.GrowthLemmas.{journals-grow}
 use Rattle.hol_theorem_library.specs.Library.{IsContinued}
 use Rattle.hol_theorem_library.specs.declared.library.Library.{Library}
-use Rattle.hol_conv.specs.Makes.{Joins, IsRightSide}
+use Rattle.hol_conv.specs.Makes.{StandsOn, Joins, IsRightSide}
 use Rattle.hol_conv.specs.declared.converted.Converted.{Converted}
 use Rattle.hol_conv.specs.declared.converted.Converted.TheVariants.{Same, Changed}
-use Rattle.hol_conv.specs.Converted.{same_theorem, theorem_of, answered, changed_by, IsAnswerOf}
+use Rattle.hol_conv.specs.Converted.{same_theorem, theorem_of, answered, changed_by, IsMadeFor, IsAnswerOf}
 use Rattle.hol_conv.proofs.Same.{roomy-refl, roomless-refl, same-joined, same-side}
-use Rattle.hol_conv.specs.Chains.{Equates, LeadTo, lead_nowhere, theorems, proved_by, Reflects, without_step, by_refl, Finishes, FinishesBy, IsExtended, IsChain, IsChainFrom, BeginsAt, Settles}
+use Rattle.hol_conv.specs.Chains.{Equates, LeadTo, lead_nowhere, theorems, proved_by, Reflects, without_step, by_refl, Finishes, FinishesBy, IsExtended, EndsHere, IsChain, IsChainFrom, BeginsAt, Settles}
 use Rattle.hol_conv.specs.declared.chain.Chain.{Chain}
-use Rattle.hol_conv.proofs.Leading.{leads-behind}
+use Rattle.hol_conv.proofs.Standing.{made-for-later}
+use Rattle.hol_conv.proofs.Meeting.{refl-made}
+use Rattle.hol_conv.proofs.Leading.{leads-behind, same-last}
 
 -- ---- ALL_CONV
 
@@ -37,9 +39,9 @@ by-step spent joins = rw spent (by_refl joins)
 
 -- ---- joined from the right
 
-front : (theory : Theory) (before after : List Recorded) (theorem : Recorded) (answer : Result Theorem Fault) → before ≡ after ++ theorem ∷ []
+split : (theory : Theory) (before after : List Recorded) (theorem : Recorded) (answer : Result Theorem Fault) → before ≡ after ++ theorem ∷ []
     → joined_from theory (theorems before) answer ≡ joined_from theory (theorems after) (onto theory theorem.theorem answer)
-front theory before after theorem answer is =
+split theory before after theorem answer is =
     let moved : theorems (after ++ theorem ∷ []) ≡ theorems after ++ theorem.theorem ∷ [] = map-append (λ (made : Recorded). made.theorem) after (theorem ∷ []) in
     ap (λ (all : List Recorded). joined_from theory (theorems all) answer) is
     ∙ ap (λ (all : List Theorem). joined_from theory all answer) moved
@@ -51,13 +53,13 @@ no-theorem is = cc
 pub joined-on : (theory : Theory) (before after : List Recorded) (theorem : Recorded) (last joined : Theorem) → before ≡ after ++ theorem ∷ []
     → Joins (trans_outcome theory theorem.theorem last) (Ok joined) → joined_from theory (theorems before) (Ok last) ≡ joined_from theory (theorems after) (Ok joined)
 joined-on theory before after theorem last joined is (inl made) =
-    front theory before after theorem (Ok last) is ∙ ap (λ (answer : Result Theorem Fault). joined_from theory (theorems after) answer) (sym made)
+    split theory before after theorem (Ok last) is ∙ ap (λ (answer : Result Theorem Fault). joined_from theory (theorems after) answer) (sym made)
 joined-on theory before after theorem last joined is (inr made) = no-theorem (sym made)
 
 pub joined-off : (theory : Theory) (before after : List Recorded) (theorem : Recorded) (last : Theorem) (fault : Fault) → before ≡ after ++ theorem ∷ []
     → Joins (trans_outcome theory theorem.theorem last) (Err fault) → Joins (joined_from theory (theorems before) (Ok last)) (Err fault)
 joined-off theory before after theorem last fault is (inl made) =
-    inl (sym (front theory before after theorem (Ok last) is
+    inl (sym (split theory before after theorem (Ok last) is
     ∙ ap (λ (answer : Result Theorem Fault). joined_from theory (theorems after) answer) (sym made) ∙ joined-err theory (theorems after) fault))
 joined-off theory before after theorem last fault is (inr made) = inr made
 
@@ -82,12 +84,16 @@ pub made-later : {old new : Library} (all : List Recorded) → IsContinued old n
 made-later {old} {new} all continued made =
     All-weaker (IsMade old.recorder) (IsMade new.recorder) (λ (one : Recorded) (is : IsMade old.recorder one). journals-grow.stays old.recorder new.recorder one continued.grown is) all made
 
+ends-later : {old new : Library} {all : List Recorded} {current : NamedTerm} → IsContinued old new → EndsHere old all current → EndsHere new all current
+ends-later continued is = record { front = is.front; last = is.last; there = is.there; stands = is.stands ∙ sym continued.theory; right = is.right }
+
 chain-still : {old new : Library} {chain : Chain} → IsContinued old new → IsChain old chain → IsChain new chain
 chain-still {chain} continued is = record {
   made = made-later chain.theorems.items continued is.made;
   lead = is.lead;
   known = subst (λ (theory : Theory). is_known theory chain.current ≡ true) (sym continued.theory) is.known;
   roomy = is.roomy;
+  ends = λ said. ends-later continued (is.ends said);
 }
 
 pub chain-later : {old new : Library} {t : NamedTerm} {chain : Chain} → IsContinued old new → IsChainFrom old t chain → IsChainFrom new t chain
@@ -98,14 +104,15 @@ absurd-test true a b = cc
 absurd-test false a b = cc
 
 -- without theorems
-pub chain-begun : {library : Library} {t : NamedTerm} (chain : Chain) → chain.theorems.items ≡ [] → chain.current ≡ t → chain.is_same ≡ false → is_known library.recorder.theory t ≡ true
-    → IsChainFrom library t chain
-chain-begun {library} {t} chain none current settled known = record {
+pub chain-begun : {library : Library} {t : NamedTerm} (chain : Chain) → chain.theorems.items ≡ [] → chain.current ≡ t → chain.is_same ≡ false → chain.stands_here ≡ false
+    → is_known library.recorder.theory t ≡ true → IsChainFrom library t chain
+chain-begun {library} {t} chain none current settled unsaid known = record {
   held = record {
     made = subst (λ (all : List Recorded). All (IsMade library.recorder) all) (sym none) (All-nil (IsMade library.recorder));
     lead = subst (λ (all : List Recorded). LeadTo all (image chain.current)) (sym none) lead_nowhere;
     known = subst (λ (u : NamedTerm). is_known library.recorder.theory u ≡ true) (sym current) known;
     roomy = λ same. absurd-test chain.is_same settled same;
+    ends = λ said. absurd-test chain.stands_here unsaid said;
   };
   begun = λ empty. current;
 }
@@ -113,34 +120,37 @@ chain-begun {library} {t} chain none current settled known = record {
 -- one more theorem
 pub chain-pushed : {library : Library} (chain after : Chain) (made : Recorded) → IsChain library chain → IsMade library.recorder made
     → after.theorems.items ≡ chain.theorems.items ++ made ∷ [] → Equates (image chain.current) (image after.current) made.theorem
-    → is_known library.recorder.theory after.current ≡ true → after.is_same ≡ false → IsChain library after
-chain-pushed {library} chain after made is one items equates known settled = record {
+    → is_known library.recorder.theory after.current ≡ true → after.is_same ≡ false
+    → (after.stands_here ≡ true → StandsOn library.recorder.theory made × IsRightSide made.theorem after.current) → IsChain library after
+chain-pushed {library} chain after made is one items equates known settled ends = record {
   made = subst (λ (all : List Recorded). All (IsMade library.recorder) all) (sym items) (All-push (IsMade library.recorder) chain.theorems.items made is.made one);
   lead = leads-behind made is.lead equates items;
   known = known;
   roomy = λ same. absurd-test after.is_same settled same;
+  ends = λ said. record { front = chain.theorems.items; last = made; there = items; stands = (ends said).0; right = (ends said).1 };
 }
 
 pub chain-behind : {old new : Library} (chain after : Chain) (made : Recorded) → IsContinued old new → IsChain old chain → IsMade new.recorder made
     → after.theorems.items ≡ chain.theorems.items ++ made ∷ [] → Equates (image chain.current) (image after.current) made.theorem
-    → is_known new.recorder.theory after.current ≡ true → after.is_same ≡ false → IsChain new after
-chain-behind chain after made continued is one items equates known settled = chain-pushed chain after made (chain-still continued is) one items equates known settled
+    → is_known new.recorder.theory after.current ≡ true → after.is_same ≡ false → after.stands_here ≡ false → IsChain new after
+chain-behind chain after made continued is one items equates known settled unsaid =
+    chain-pushed chain after made (chain-still continued is) one items equates known settled (λ said. absurd-test after.stands_here unsaid said)
 
 pub known-there : {old new : Library} (t : NamedTerm) → IsContinued old new → is_known old.recorder.theory t ≡ true → is_known new.recorder.theory t ≡ true
 known-there t continued known = subst (λ (theory : Theory). is_known theory t ≡ true) (sym continued.theory) known
 
 -- what is joined, as an answer
-as-made : (theory : Theory) (t : NamedTerm) (made : Result Recorded Fault) → answered theory t (changed_by made) ≡ theorem_in made
-as-made theory t (Ok made) = refl
-as-made theory t (Err fault) = refl
+as-made : (theory : Theory) (t : NamedTerm) (stands : Bool) (made : Result Recorded Fault) → answered theory t (changed_by stands made) ≡ theorem_in made
+as-made theory t stands (Ok made) = refl
+as-made theory t stands (Err fault) = refl
 
-pub joined-answer : {old new : Library} (t : NamedTerm) (items : List Recorded) (last : Theorem) (made : Result Recorded Fault) (result : Result Converted Fault) → IsContinued old new
-    → Joins (joined_from new.recorder.theory (theorems items) (Ok last)) (theorem_in made) → result ≡ changed_by made
+pub joined-answer : {old new : Library} (t : NamedTerm) (items : List Recorded) (last : Theorem) (stands : Bool) (made : Result Recorded Fault) (result : Result Converted Fault) → IsContinued old new
+    → Joins (joined_from new.recorder.theory (theorems items) (Ok last)) (theorem_in made) → result ≡ changed_by stands made
     → Joins (joined_from old.recorder.theory (theorems items) (Ok last)) (answered old.recorder.theory t result)
-joined-answer {old} t items last made result continued joins is =
+joined-answer {old} t items last stands made result continued joins is =
     let joins = subst (λ (theory : Theory). Joins (joined_from theory (theorems items) (Ok last)) (theorem_in made)) continued.theory joins in
     subst (λ (answer : Result Theorem Fault). Joins (joined_from old.recorder.theory (theorems items) (Ok last)) answer)
-    (sym (ap (answered old.recorder.theory t) is ∙ as-made old.recorder.theory t made)) joins
+    (sym (ap (answered old.recorder.theory t) is ∙ as-made old.recorder.theory t stands made)) joins
 
 -- ---- that the current term equals itself
 
@@ -193,6 +203,38 @@ ends-unmade {theory} chain fault same next caught reflects (inl is) =
     ends-caught (proved_by theory chain) fault same caught reflects
     (inl (sym (ap (joined_from theory (proved_by theory chain)) (sym is) ∙ joined-err theory (proved_by theory chain) next)))
 ends-unmade {theory} chain fault same next caught reflects (inr is) = ends-caught (proved_by theory chain) fault same caught reflects (inr is)
+
+reflected-same : {theory : Theory} {t : NamedTerm} {steps left : ℕ} {same : Result Theorem Fault} (made : Theorem) → Reflects theory t steps same left → same ≡ Ok made → made ≡ same_theorem theory t
+reflected-same made without_step is = no-theorem is
+reflected-same {theory} {t} made (by_refl joins) is = refl-made theory t (subst (λ (answer : Result Theorem Fault). Joins (refl_outcome theory t) answer) is joins)
+
+-- and one whose last theorem has that right side, without REFL
+pub ends-here : {theory : Theory} (chain : Chain) (fault : Fault) {steps left : ℕ} (same : Result Theorem Fault) (made : Theorem) {answer : Result Theorem Fault} → is_caught fault ≡ true
+    → is_known theory chain.current ≡ true → Reflects theory chain.current steps same left → same ≡ Ok made
+    → Joins (joined_from theory (theorems chain.theorems.items) (Ok (same_theorem theory chain.current))) answer → Finishes theory (proved_by theory chain) chain.current fault steps answer left
+ends-here {theory} chain fault same made caught known reflects is joins =
+    let found : same ≡ Ok (same_theorem theory chain.current) = is ∙ ap Ok (reflected-same made reflects is) in
+    ends-joined chain fault same (same_theorem theory chain.current) caught known reflects (inl (sym found)) joins
+
+-- the last of the theorems
+pub ends-by : {library : Library} {all : List Recorded} {current : NamedTerm} (front : List Recorded) (last : Recorded) → EndsHere library all current → all ≡ front ++ last ∷ []
+    → StandsOn library.recorder.theory last × IsRightSide last.theorem current
+ends-by {library} {all} {current} front last ends is =
+    let same = (same-last ends.front front ends.last last (sym ends.there ∙ is)).1 in
+    (subst (λ (made : Recorded). StandsOn library.recorder.theory made) same ends.stands, subst (λ (made : Recorded). IsRightSide made.theorem current) same ends.right)
+
+pub last-made : {library : Library} {all : List Recorded} (front : List Recorded) (last : Recorded) → All (IsMade library.recorder) all → all ≡ front ++ last ∷ []
+    → All (IsMade library.recorder) front × IsMade library.recorder last
+last-made {library} {all} front last made is = All-pop (IsMade library.recorder) all front (Some last) is made
+
+-- behind it that adds nothing
+pub joins-last : (theory : Theory) (all front : List Recorded) (last : Recorded) (same : Theorem) {answer : Result Theorem Fault} → all ≡ front ++ last ∷ [] → trans_outcome theory last.theorem same ≡ Ok last.theorem
+    → Joins (joined_from theory (theorems front) (Ok last.theorem)) answer → Joins (joined_from theory (theorems all) (Ok same)) answer
+joins-last theory all front last same there nothing joins =
+    joins-as (front_is ∙ ap (joined_from theory (theorems front)) nothing) joins
+  where
+    front_is : joined_from theory (theorems all) (Ok same) ≡ joined_from theory (theorems front) (trans_outcome theory last.theorem same)
+    front_is = split theory all front last (Ok same) there
 
 same-fault : {a b : Fault} → ◌≡◌ {A = Result Theorem Fault} (Err a) (Err b) → a ≡ b
 same-fault is = cc
@@ -267,21 +309,26 @@ extends-settled theory old mid new made settles extends = record {
 }
 
 -- the same over what a call answers
-pub extends-by : (theory : Theory) (old mid : Chain) (made : Recorded) (answer : Converted) (result : Result Chain Fault) → Settles theory old mid → answer ≡ Changed made
+pub extends-by : (theory : Theory) (old mid : Chain) (made : Recorded) (stands : Bool) (answer : Converted) (result : Result Chain Fault) → Settles theory old mid → answer ≡ Changed made stands
     → IfOk result (IsExtended theory (proved_by theory mid) made.theorem) → IfOk result (IsExtended theory (proved_by theory old) (theorem_of theory old.current answer))
-extends-by theory old mid made answer (Ok new) settles is extends =
+extends-by theory old mid made stands answer (Ok new) settles is extends =
     subst (λ (answer : Converted). IsExtended theory (proved_by theory old) (theorem_of theory old.current answer) new) (sym is)
     (extends-settled theory old mid new made.theorem settles extends)
-extends-by theory old mid made answer (Err fault) settles is extends = tt
+extends-by theory old mid made stands answer (Err fault) settles is extends = tt
 
 pub begins-by : (old : Chain) (result : Result Chain Fault) → IfOk result (λ new. (t : NamedTerm) → BeginsAt t new) → IfOk result (λ new. (t : NamedTerm) → BeginsAt t old → BeginsAt t new)
 begins-by old (Ok new) begins = λ t begun. begins t
 begins-by old (Err fault) begins = tt
 
 -- of an equation of the current term before
-pub pushes-equation : {theory : Theory} (old mid : Chain) (made : Recorded) (answer : Converted) → Settles theory old mid → answer ≡ Changed made
+pub pushes-made : {old new : Library} (t : NamedTerm) (made : Recorded) (stands : Bool) (answer : Converted) → IsContinued old new → answer ≡ Changed made stands → IsAnswerOf old t answer
+    → IsMadeFor new stands made
+pushes-made {old} t made stands answer continued is answers =
+    made-for-later stands made continued (subst (λ (answer : Converted). IsAnswerOf old t answer) is answers)
+
+pub pushes-equation : {theory : Theory} (old mid : Chain) (made : Recorded) (stands : Bool) (answer : Converted) → Settles theory old mid → answer ≡ Changed made stands
     → IsEquationOf old.current (theorem_of theory old.current answer) → IsEquationOf mid.current made.theorem
-pushes-equation {theory} old mid made answer settles is of =
+pushes-equation {theory} old mid made stands answer settles is of =
     subst (λ (u : NamedTerm). IsEquationOf u made.theorem) (sym settles.current) (subst (λ (answer : Converted). IsEquationOf old.current (theorem_of theory old.current answer)) is of)
 
 -- ---- chains that begin with an answer
@@ -307,7 +354,7 @@ begun-extends theory chain answer result none current extends =
 -- and with one more on its right side
 pub twice-answers : {old new : Library} (chain : Chain) (second : Converted) → IsContinued old new → IsAnswerOf old chain.current second → IsAnswerOf new chain.current second
 twice-answers chain Same continued is = is
-twice-answers {old} {new} chain (Changed made) continued is = journals-grow.stays old.recorder new.recorder made continued.grown is
+twice-answers chain (Changed made stands) continued is = made-for-later stands made continued is
 
 pub twice-equation : {old new : Library} (chain : Chain) (second : Converted) → IsContinued old new → IsEquationOf chain.current (theorem_of old.recorder.theory chain.current second)
     → IsEquationOf chain.current (theorem_of new.recorder.theory chain.current second)

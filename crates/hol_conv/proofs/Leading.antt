@@ -76,11 +76,11 @@ trans-equates theory a b joined {left} {middle} {there} {right} first second is 
 
 -- ---- the last theorem
 
-no-items : {A : Type 0} (items : List Recorded) (made : Recorded) → items ++ made ∷ [] ≡ [] → A
+pub no-items : {A : Type 0} (items : List Recorded) (made : Recorded) → items ++ made ∷ [] ≡ [] → A
 no-items [] made is = cc
 no-items (first ∷ items) made is = cc
 
-same-last : (xs ys : List Recorded) (x y : Recorded) → xs ++ x ∷ [] ≡ ys ++ y ∷ [] → (xs ≡ ys) × (x ≡ y)
+pub same-last : (xs ys : List Recorded) (x y : Recorded) → xs ++ x ∷ [] ≡ ys ++ y ∷ [] → (xs ≡ ys) × (x ≡ y)
 same-last [] [] x y is =
     let same : x ≡ y = cc in
     (refl, same)
@@ -122,6 +122,12 @@ last-meets front made up is =
       second_is = up.equates.is;
       middle = up.equates.left_is ∙ sym before.equates.right_is;
     }
+
+-- those before it lead up to it
+pub front-leads-up : {all : List Recorded} {end : Nameless} (front : List Recorded) (made : Recorded) → LeadTo all end → all ≡ front ++ made ∷ [] → LeadUpTo front made.theorem
+front-leads-up {all} {end} front made lead is =
+    let before = last-leads front made lead is in
+    record { left = before.middle; right = end; equates = before.equates; lead = before.lead }
 
 -- and those before it lead to what it is joined to
 pub front-leads : (theory : Theory) {all : List Recorded} {last joined : Theorem} (front : List Recorded) (made : Recorded) → LeadUpTo all last → all ≡ front ++ made ∷ []

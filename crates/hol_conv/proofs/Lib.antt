@@ -1,4 +1,5 @@
 pub mod Making
+pub mod Standing
 pub mod Joining
 pub mod RightSides
 pub mod OneSteps

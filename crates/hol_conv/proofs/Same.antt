@@ -145,7 +145,8 @@ then-unchanged theory t right first next same next_same side fits =
     ∙ ap (λ (u : NamedTerm). trans_outcome theory (same_theorem theory t) (same_theorem theory u)) (side-same theory t right side)
     ∙ same-joined theory t fits))
 
-pub only-made : (made : Recorded) (answer : Converted) (found : Result Recorded Fault) (result : Result Converted Fault) → result ≡ changed_by found → IfOk found (λ same. same ≡ made)
-    → answer ≡ Changed made → IfOk result (λ same. same ≡ answer)
-only-made made answer (Ok same) result is found changed = subst (λ (result : Result Converted Fault). IfOk result (λ same. same ≡ answer)) (sym is) (ap Changed found ∙ sym changed)
-only-made made answer (Err fault) result is found changed = subst (λ (result : Result Converted Fault). IfOk result (λ same. same ≡ answer)) (sym is) tt
+pub only-made : (made : Recorded) (stands : Bool) (answer : Converted) (found : Result Recorded Fault) (result : Result Converted Fault) → result ≡ changed_by stands found
+    → IfOk found (λ same. same ≡ made) → answer ≡ Changed made stands → IfOk result (λ same. same ≡ answer)
+only-made made stands answer (Ok same) result is found changed =
+    subst (λ (result : Result Converted Fault). IfOk result (λ same. same ≡ answer)) (sym is) (ap (λ (made : Recorded). Changed made stands) found ∙ sym changed)
+only-made made stands answer (Err fault) result is found changed = subst (λ (result : Result Converted Fault). IfOk result (λ same. same ≡ answer)) (sym is) tt

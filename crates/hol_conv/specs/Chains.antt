@@ -13,7 +13,7 @@ use Rattle.hol_model.specs.Refining.Conversions.{is_caught}
 use Rattle.hol_laws_refiners.proofs.Repeating.{joined_from}
 use Rattle.hol_journal.specs.Journal.{Recorded, IsMade}
 use Rattle.hol_theorem_library.specs.declared.library.Library.{Library}
-use Rattle.hol_conv.specs.Makes.{Joins, IsRightSide}
+use Rattle.hol_conv.specs.Makes.{StandsOn, Joins, IsRightSide}
 use Rattle.hol_conv.specs.Converted.{same_theorem, answered, IsAnswerOf}
 use Rattle.hol_conv.specs.declared.chain.Chain.{Chain}
 use Rattle.hol_conv.specs.declared.chain.Linked.{Linked}
@@ -45,13 +45,22 @@ pub record LeadUpTo (all : List Recorded) (last : Theorem) : Type 0 where
   pub equates : Equates left right last
   pub lead : LeadTo all left
 
+-- the last theorem stands on the library's theory, and the term is its right side
+pub record EndsHere (library : Library) (all : List Recorded) (current : NamedTerm) : Type 0 where
+  pub front : List Recorded
+  pub last : Recorded
+  pub there : all ≡ front ++ last ∷ []
+  pub stands : StandsOn library.recorder.theory last
+  pub right : IsRightSide last.theorem current
+
 -- the recorder made the theorems, which lead to the current term; its theory knows that term, and there is room for that it
--- equals itself
+-- equals itself; the last theorem stands on that theory where it is said to
 pub record IsChain (library : Library) (chain : Chain) : Type 0 where
   pub made : All (IsMade library.recorder) chain.theorems.items
   pub lead : LeadTo chain.theorems.items (image chain.current)
   pub known : is_known library.recorder.theory chain.current ≡ true
   pub roomy : chain.is_same ≡ true → is_within_limits (equation chain.current chain.current) ≡ true
+  pub ends : chain.stands_here ≡ true → EndsHere library chain.theorems.items chain.current
 
 -- where there are no theorems yet, the current term is the first
 abbrev pub BeginsAt : NamedTerm → Chain → Type 0

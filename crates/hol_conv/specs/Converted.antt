@@ -1,5 +1,5 @@
 -- What the answers of conversions stand for.
-use Rattle.std.specs.Prelude.{◌≡◌, [], true, Result, Ok, Err, IfOk}
+use Rattle.std.specs.Prelude.{◌≡◌, [], Bool, true, Result, Ok, Err, IfOk}
 use Rattle.hol_model.specs.declared.fault.Fault.{Fault}
 use Rattle.hol_model.specs.Terms.NamedTerm.{NamedTerm, equation, is_within_limits}
 use Rattle.hol_model.specs.Logic.Theory.{Theory}
@@ -9,6 +9,7 @@ use Rattle.hol_model.specs.Kernel.Rules.{refl_outcome, trans_outcome}
 use Rattle.hol_journal.specs.Journal.{Recorded, IsMade}
 use Rattle.hol_theorem_library.specs.Library.{IsLibrary, IsContinued}
 use Rattle.hol_theorem_library.specs.declared.library.Library.{Library}
+use Rattle.hol_conv.specs.Makes.{StandsOn}
 use Rattle.hol_conv.specs.declared.converted.Converted.{Converted}
 use Rattle.hol_conv.specs.declared.converted.Converted.TheVariants.{Same, Changed}
 
@@ -19,21 +20,26 @@ same_theorem theory t = record { theory = theory; hypotheses = []; conclusion = 
 -- the theorem that an answer on the term stands for
 abbrev pub theorem_of : Theory → NamedTerm → Converted → Theorem
 theorem_of theory t Same = same_theorem theory t
-theorem_of theory t (Changed made) = made.theorem
+theorem_of theory t (Changed made stands) = made.theorem
 
 abbrev pub answered : Theory → NamedTerm → Result Converted Fault → Result Theorem Fault
 answered theory t (Ok answer) = Ok (theorem_of theory t answer)
 answered theory t (Err fault) = Err fault
 
 -- a theorem that was made, as an answer
-abbrev pub changed_by : Result Recorded Fault → Result Converted Fault
-changed_by (Ok made) = Ok (Changed made)
-changed_by (Err fault) = Err fault
+abbrev pub changed_by : Bool → Result Recorded Fault → Result Converted Fault
+changed_by stands (Ok made) = Ok (Changed made stands)
+changed_by stands (Err fault) = Err fault
+
+-- the recorder made the theorem, which stands on its theory where it is said to
+pub record IsMadeFor (library : Library) (stands_here : Bool) (made : Recorded) : Type 0 where
+  pub is_made : IsMade library.recorder made
+  pub stands : stands_here ≡ true → StandsOn library.recorder.theory made
 
 -- that nothing changes is answered where REFL has room; another theorem is the recorder's
 abbrev pub IsAnswerOf : Library → NamedTerm → Converted → Type 0
 IsAnswerOf library t Same = is_within_limits (equation t t) ≡ true
-IsAnswerOf library t (Changed made) = IsMade library.recorder made
+IsAnswerOf library t (Changed made stands) = IsMadeFor library stands made
 
 -- TRANS of what REFL proves and a theorem, and of a theorem and what REFL proves
 abbrev pub from_refl : Theory → NamedTerm → Theorem → Result Theorem Fault
@@ -45,7 +51,7 @@ to_refl theory first right = refl_outcome theory right >>= λ same. trans_outcom
 -- another theorem is the recorder's
 abbrev pub IsHeldIn : Library → Converted → Type 0
 IsHeldIn library Same = Unit {0}
-IsHeldIn library (Changed made) = IsMade library.recorder made
+IsHeldIn library (Changed made stands) = IsMade library.recorder made
 
 -- it is a library still, its journal alone has grown, and what is answered is an answer on the term
 pub record MakesAnswer (old new : Library) (t : NamedTerm) (result : Result Converted Fault) : Type 0 where

@@ -1,5 +1,5 @@
 -- Conversions with others in place of those without parts.
-use Rattle.std.specs.Prelude.{List}
+use Rattle.std.specs.Prelude.{List, Bool, true, false}
 use Rattle.hol_model.specs.Refining.Conversions.{Conversion, Conversions, no_more, more, thenc, orelsec, repeatc, try_conv, changed_conv, rand_conv, rator_conv}
 use Rattle.hol_model.specs.Refining.Conversions.{abs_conv, sub_conv, depth_conv, once_depth_conv, top_depth_conv}
 use Rattle.hol_tactic_exprs.specs.Expressions.{conversion_of, conversions_of}
@@ -48,3 +48,8 @@ IsLeaf Beta = Unit {0}
 IsLeaf (Rewr name) = Unit {0}
 IsLeaf (Host name) = Unit {0}
 IsLeaf _ = ⊥
+
+-- the theorem of a conversion without parts is made as it is asked for; what a host answers may be stored
+abbrev pub is_made_anew : Conv → Bool
+is_made_anew (Host name) = false
+is_made_anew _ = true

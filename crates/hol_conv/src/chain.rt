@@ -12,13 +12,13 @@ ghost use Rattle.hol_laws_refiners.proofs.Repeating.{joined_from};
 ghost use Rattle.hol_journal.specs.Journal.{IsMade, theorem_in};
 ghost use Rattle.hol_theorem_library.specs.Library.{IsLibrary, IsContinued};
 ghost use Rattle.hol_theorem_library.specs.declared.library.Library as library;
-ghost use Rattle.hol_conv.specs.Makes.{Makes, Joins, IsRightSide};
-ghost use Rattle.hol_conv.specs.Converted.{theorem_of, answered, IsAnswerOf, MakesAnswer};
+ghost use Rattle.hol_conv.specs.Makes.{Makes, StandsOn, Joins, IsRightSide};
+ghost use Rattle.hol_conv.specs.Converted.{same_theorem, theorem_of, answered, IsMadeFor, IsAnswerOf, MakesAnswer};
 ghost use Rattle.hol_conv.specs.Chains as chains;
 ghost use Rattle.hol_conv.specs.Chains.{proved_by, LeadUpTo, IsChain, BeginsAt, IsChainFrom, Settles, Reflects, Finishes, Tries, IsExtended, Links, LinksMade};
 
 use crate::converted::{Answer, Converted, as_answer, only_changed, theorem, unchanged};
-use crate::joins::{refl_known, right_side, trans_known};
+use crate::joins::{adds_nothing, refl_known, right_side, trans_known};
 use hol_journal::Rec;
 use hol_model::Fault;
 use hol_tactic_exprs::{Fuel, is_caught};
@@ -31,6 +31,8 @@ use std::alloc::Global;
 pub(crate) struct Chain {
     pub(crate) theorems: Vec<Rec>,
     pub(crate) current: Term,
+    /// Whether the last theorem is known to stand on the library's theory.
+    pub(crate) stands_here: bool,
     /// Whether that the current term equals itself stands behind them, which is not made yet.
     pub(crate) is_same: bool,
 }
@@ -46,6 +48,7 @@ fn begin(alloc: Global, t: &Term) -> Result<Chain, Fault>
     Ok(Chain {
         theorems: Vec::new(alloc),
         current,
+        stands_here: false,
         is_same: false,
     })
 }
@@ -70,6 +73,7 @@ fn joined(library: &mut Library, theorems: Vec<Rec>, last: Rec) -> Result<Rec, F
     requires last { IsMade library.old.recorder last }
     requires lead { LeadUpTo theorems.items last.theorem }
     ensures joins { Joins (joined_from library.old.recorder.theory (chains.theorems theorems.items) (Ok last.theorem)) (theorem_in result) }
+    ensures stands { StandsOn library.old.recorder.theory last → IfOk result (StandsOn library.old.recorder.theory) }
     ensures makes { Makes library.old library.new result }
 {
     let mut theorems = theorems;
@@ -78,6 +82,30 @@ fn joined(library: &mut Library, theorems: Vec<Rec>, last: Rec) -> Result<Rec, F
         last = trans_known(library, &theorem, &last)?;
     }
     Ok(last)
+}
+
+// The theorems of a chain, joined from the right to the last, which stands on the library's theory. That the current term equals itself
+// would add nothing behind it.
+fn ended(library: &mut Library, chain: Chain) -> Result<Rec, Fault>
+    requires library { IsLibrary library.old }
+    requires chain { IsChain library.old chain }
+    requires stands { chain.stands_here ≡ true }
+    ensures joins { Joins (joined_from library.old.recorder.theory (chains.theorems chain.theorems.items) (Ok (same_theorem library.old.recorder.theory chain.current))) (theorem_in result) }
+    ensures stands { IfOk result (StandsOn library.old.recorder.theory) }
+    ensures makes { Makes library.old library.new result }
+{
+    let Chain {
+        mut theorems,
+        current,
+        ..
+    } = chain;
+    match theorems.pop() {
+        Some(last) => {
+            adds_nothing(library, &last, &current);
+            joined(library, theorems, last)
+        }
+        None => unreachable!(),
+    }
 }
 
 /// Ends a chain from a term behind a refusal: by ALL_CONV where it is caught.
@@ -100,14 +128,18 @@ pub(crate) fn finish(
     if chain.theorems.is_empty() {
         return same(library, t, fuel);
     }
+    let last = same(library, &chain.current, fuel);
+    if chain.stands_here {
+        return match last {
+            Ok(_) => as_answer(ended(library, chain), true),
+            Err(fault) => Err(fault),
+        };
+    }
     let Chain {
-        theorems,
-        current,
-        ..
+        theorems, current, ..
     } = chain;
-    let last = same(library, &current, fuel);
     match theorem(library, &current, last) {
-        Ok(last) => as_answer(joined(library, theorems, last)),
+        Ok(last) => as_answer(joined(library, theorems, last), false),
         Err(fault) => Err(fault),
     }
 }
@@ -165,6 +197,7 @@ fn settled(library: &mut Library, chain: Chain) -> Result<Chain, Fault>
         Ok(()) => Ok(Chain {
             theorems,
             current,
+            stands_here: false,
             is_same: false,
         }),
         Err(_) => Err(Fault::Memory),
@@ -172,10 +205,15 @@ fn settled(library: &mut Library, chain: Chain) -> Result<Chain, Fault>
 }
 
 // Puts an equation of the current term behind theorems that are made.
-fn pushed(library: &Library, chain: Chain, made: Rec) -> Result<Chain, Fault>
+fn pushed(
+    library: &Library,
+    chain: Chain,
+    made: Rec,
+    stands_here: bool,
+) -> Result<Chain, Fault>
     requires chain { IsChain library.now chain }
     requires settled { chain.is_same ≡ false }
-    requires made { IsMade library.now.recorder made }
+    requires made { IsMadeFor library.now stands_here made }
     requires equation { IsEquationOf chain.current made.theorem }
     ensures chain { IfOk result (IsChain library.now) }
     ensures extends { (theory : Theory) → IfOk result (IsExtended theory (proved_by theory chain) made.theorem) }
@@ -189,6 +227,7 @@ fn pushed(library: &Library, chain: Chain, made: Rec) -> Result<Chain, Fault>
         Ok(()) => Ok(Chain {
             theorems,
             current,
+            stands_here,
             is_same: false,
         }),
         Err(_) => Err(Fault::Memory),
@@ -213,9 +252,10 @@ fn extended(library: &mut Library, chain: Chain, answer: Converted) -> Result<Ch
         Converted::Same => Ok(Chain {
             theorems: chain.theorems,
             current: chain.current,
+            stands_here: chain.stands_here,
             is_same: true,
         }),
-        Converted::Changed(made) => pushed(library, chain, made),
+        Converted::Changed(made, stands_here) => pushed(library, chain, made, stands_here),
     }
 }
 

@@ -1,5 +1,5 @@
 // Conversions of one step.
-ghost use Rattle.std.specs.Prelude.{◌≡◌, ◌⊎◌, [], ◌∷◌, true, Err};
+ghost use Rattle.std.specs.Prelude.{◌≡◌, ◌⊎◌, [], ◌∷◌, true, Err, IfOk};
 ghost use Rattle.std.specs.Option.{is_some};
 ghost use Rattle.hol_model.specs.declared.fault.Fault.TheVariants.{Memory};
 ghost use Rattle.hol_model.specs.Logic.KnownTerm.{is_known};
@@ -12,7 +12,7 @@ ghost use Rattle.hol_journal.specs.Journal.{theorem_in};
 ghost use Rattle.hol_prelude_derivations.specs.Derivations.{AreMade, theorems};
 ghost use Rattle.hol_rewrite.specs.RuleSides.{AreEquations, sides_of_rules};
 ghost use Rattle.hol_theorem_library.specs.Library.{IsLibrary};
-ghost use Rattle.hol_conv.specs.Makes.{Makes};
+ghost use Rattle.hol_conv.specs.Makes.{Makes, StandsOn};
 
 use hol_journal::Rec;
 use hol_model::Fault;
@@ -38,6 +38,7 @@ fn is_redex(term: &Term) -> bool
 pub fn beta_conv(library: &mut Library, term: &Term) -> Result<Rec, Fault>
     requires library { IsLibrary library.old }
     ensures makes { Makes library.old library.new result }
+    ensures stands { IfOk result (StandsOn library.old.recorder.theory) }
     ensures answers { AnswersStated (theorem_in result) (image term.now ∷ []) (redex_outcome library.old.recorder.theory term.now) }
 {
     if !is_redex(term) {
@@ -60,6 +61,7 @@ pub fn rules_conv(
     requires choice { choice.now ≡ sides_of_rules rules.now }
     requires known { is_known library.old.recorder.theory term.now ≡ true }
     ensures makes { Makes library.old library.new result }
+    ensures stands { IfOk result (StandsOn library.old.recorder.theory) }
     ensures rewrites { Rewrites (theorems rules.now) term.now (theorem_in result) ⊎ (theorem_in result ≡ Err Memory) }
 {
     rewrite_at(&mut library.recorder, rules, choice, term)

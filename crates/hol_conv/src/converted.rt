@@ -11,11 +11,12 @@ ghost use Rattle.hol_laws_refiners.proofs.Repeating.{onto};
 ghost use Rattle.hol_journal.specs.Journal.{IsMade, theorem_in};
 ghost use Rattle.hol_theorem_library.specs.Library.{IsLibrary};
 ghost use Rattle.hol_theorem_library.specs.declared.library.Library as library;
-ghost use Rattle.hol_conv.specs.Makes.{Makes, Joins, IsRightSide};
-ghost use Rattle.hol_conv.specs.Converted.{same_theorem, theorem_of, answered, changed_by, IsAnswerOf, IsHeldIn, MakesAnswer, from_refl, to_refl};
+ghost use Rattle.hol_conv.specs.Makes.{Makes, StandsOn, StandsIf, Joins, IsRightSide};
+ghost use Rattle.hol_conv.specs.Converted.{same_theorem, theorem_of, answered, changed_by, IsMadeFor, IsAnswerOf, IsHeldIn, MakesAnswer, from_refl, to_refl};
 
 use crate::joins::{
-    abs, ap_term, ap_thm, if_changed, mk_comb, refl_known, right_side, trans_known,
+    abs, adds_nothing, ap_term, ap_thm, copied, if_changed, mk_comb, refl_known, right_side,
+    trans_known,
 };
 use crate::parts::Halves;
 use hol_journal::Rec;
@@ -28,7 +29,8 @@ use hol_theorem_library::Library;
 pub enum Converted {
     /// `|- t = t`, which is not made.
     Same,
-    Changed(Rec),
+    /// A theorem, and whether it is known to stand on the recorder's theory.
+    Changed(Rec, bool),
 }
 
 /// An answer, or its refusal.
@@ -46,13 +48,13 @@ pub fn unchanged(t: &Term) -> Answer
     }
 }
 
-/// A theorem that was made, as an answer.
-pub fn as_answer(made: Result<Rec, Fault>) -> Answer
-    ensures same { result ≡ changed_by made }
+/// A theorem that was made, as an answer, and whether it is known to stand on the recorder's theory.
+pub fn as_answer(made: Result<Rec, Fault>, stands_here: bool) -> Answer
+    ensures same { result ≡ changed_by stands_here made }
     ensures answered { (theory : Theory) (t : NamedTerm) → answered theory t result ≡ theorem_in made }
-    ensures made { (old new : library.Library) (t : NamedTerm) → Makes old new made → MakesAnswer old new t result }
+    ensures made { (old new : library.Library) (t : NamedTerm) → Makes old new made → StandsIf stands_here old.recorder.theory made → MakesAnswer old new t result }
 {
-    Ok(Converted::Changed(made?))
+    Ok(Converted::Changed(made?, stands_here))
 }
 
 /// The theorem of an answer on a known term.
@@ -65,7 +67,7 @@ pub fn theorem(library: &mut Library, t: &Term, answer: Answer) -> Result<Rec, F
 {
     match answer? {
         Converted::Same => refl_known(library, t),
-        Converted::Changed(made) => Ok(made),
+        Converted::Changed(made, _) => Ok(made),
     }
 }
 
@@ -79,7 +81,7 @@ pub fn right_of<'a>(library: &Library, t: &'a Term, answer: &'a Converted) -> &'
 {
     match answer {
         Converted::Same => t,
-        Converted::Changed(made) => right_side(library, made),
+        Converted::Changed(made, _) => right_side(library, made),
     }
 }
 
@@ -107,11 +109,13 @@ pub fn of_parts(
     match first {
         Converted::Same => match second {
             Converted::Same => unchanged(t),
-            Converted::Changed(second) => as_answer(ap_term(library, halves.function, &second)),
+            Converted::Changed(second, _) => {
+                as_answer(ap_term(library, halves.function, &second), true)
+            }
         },
-        Converted::Changed(first) => match second {
-            Converted::Same => as_answer(ap_thm(library, &first, halves.argument)),
-            Converted::Changed(second) => as_answer(mk_comb(library, &first, &second)),
+        Converted::Changed(first, _) => match second {
+            Converted::Same => as_answer(ap_thm(library, &first, halves.argument), true),
+            Converted::Changed(second, _) => as_answer(mk_comb(library, &first, &second), true),
         },
     }
 }
@@ -157,7 +161,7 @@ pub fn of_body(library: &mut Library, t: &Term, binder: &Term, part: Answer) -> 
 {
     match part {
         Ok(Converted::Same) => unchanged(t),
-        Ok(Converted::Changed(part)) => as_answer(abs(library, binder, &part)),
+        Ok(Converted::Changed(part, _)) => as_answer(abs(library, binder, &part), true),
         Err(fault) => Err(fault),
     }
 }
@@ -169,27 +173,39 @@ fn from_same(library: &mut Library, t: &Term, next: &Rec) -> Result<Rec, Fault>
     requires next { IsMade library.old.recorder next.now }
     requires equation { IsEquationOf t.now next.now.theorem }
     ensures makes { Makes library.old library.new result }
+    ensures stands { IfOk result (StandsOn library.old.recorder.theory) }
     ensures joins { Joins (from_refl library.old.recorder.theory t.now next.now.theorem) (theorem_in result) }
 {
     let same = refl_known(library, t)?;
     trans_known(library, &same, next)
 }
 
-// TRANS of a theorem and what REFL proves.
-fn to_same(library: &mut Library, first: &Rec, right: &Term) -> Result<Rec, Fault>
+// TRANS of a theorem and what REFL proves: the theorem itself where it stands on the library's theory.
+fn to_same(
+    library: &mut Library,
+    first: &Rec,
+    stands_here: bool,
+    right: &Term,
+) -> Result<Rec, Fault>
     requires library { IsLibrary library.old }
     requires known { is_known library.old.recorder.theory right.now ≡ true }
-    requires first { IsMade library.old.recorder first.now }
+    requires roomy { is_within_limits (equation right.now right.now) ≡ true }
+    requires first { IsMadeFor library.old stands_here first.now }
     requires side { IsRightSide first.now.theorem right.now }
     ensures makes { Makes library.old library.new result }
+    ensures stands { IfOk result (StandsOn library.old.recorder.theory) }
     ensures joins { Joins (to_refl library.old.recorder.theory first.now.theorem right.now) (theorem_in result) }
 {
+    if stands_here {
+        adds_nothing(library, first, right);
+        return copied(library, first);
+    }
     let same = refl_known(library, right)?;
     trans_known(library, first, &same)
 }
 
-/// TRANS of an answer on a known term and one on its right side, which nothing is compared for. A theorem is not joined for
-/// nothing: the next may have other bound names on its left side, and the first stands on an earlier theory, it may be.
+/// TRANS of an answer on a known term and one on its right side, which nothing is compared for. A theorem in front is joined for
+/// nothing only where it may stand on an earlier theory, one behind always: it may have other bound names on its left side.
 pub fn then(
     library: &mut Library,
     t: &Term,
@@ -212,11 +228,11 @@ pub fn then(
     match first {
         Converted::Same => match next {
             Converted::Same => Ok(Converted::Same),
-            Converted::Changed(next) => as_answer(from_same(library, t, &next)),
+            Converted::Changed(next, _) => as_answer(from_same(library, t, &next), true),
         },
-        Converted::Changed(first) => match next {
-            Converted::Same => as_answer(to_same(library, first, right)),
-            Converted::Changed(next) => as_answer(trans_known(library, first, &next)),
+        Converted::Changed(first, stands_here) => match next {
+            Converted::Same => as_answer(to_same(library, first, *stands_here, right), true),
+            Converted::Changed(next, _) => as_answer(trans_known(library, first, &next), true),
         },
     }
 }
@@ -228,6 +244,6 @@ pub fn only_changed(t: &Term, answer: Converted) -> Answer
 {
     match answer {
         Converted::Same => Err(Fault::ConvFails),
-        Converted::Changed(made) => as_answer(if_changed(t, made)),
+        Converted::Changed(made, stands_here) => as_answer(if_changed(t, made), stands_here),
     }
 }

@@ -14,7 +14,7 @@ use crate::chain::{Chain, Linked, begin_by, begin_twice, changed, link, or_same,
 use crate::converted::{
     Answer, as_answer, of_argument, of_body, of_function, of_parts, right_of, then, theorem,
 };
-use crate::leaves::{Leaves, Made};
+use crate::leaves::{Leaves, Made, is_made_anew};
 use crate::parts::{Halves, abstraction, combination};
 use hol_model::{DESCENTS_LIMIT, Fault};
 use hol_tactic_exprs::{Conv, Fuel, Prefix, is_caught};
@@ -71,7 +71,8 @@ impl<L: Leaves> Level<'_, L> {
         ensures converts { (depth : ℕ) → AnswersOver library.old (L.hosts self.now.leaves.now) depth fuel.old.left (stands_for (L.means self.now.leaves.now) conv.now) t.now result fuel.new.left }
         ensures makes { MakesAnswer library.old library.new t.now result }
     {
-        as_answer(self.leaves.try_leaf(library, conv, t, fuel))
+        let made = self.leaves.try_leaf(library, conv, t, fuel);
+        as_answer(made, is_made_anew(conv))
     }
 
     // The same, where no theorem is made of what does not change.

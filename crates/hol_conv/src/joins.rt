@@ -1,5 +1,5 @@
 // The rules by which theorems of conversions are joined.
-ghost use Rattle.std.specs.Prelude.{◌≡◌, ℕ, List, true, Ok, IfOk, IsSome};
+ghost use Rattle.std.specs.Prelude.{◌≡◌, ℕ, List, true, Ok, IfOk, IfErr, IsSome};
 ghost use Rattle.hol_model.specs.Terms.HolType.{HolType};
 ghost use Rattle.hol_model.specs.Terms.NamedTerm.{variable};
 ghost use Rattle.hol_model.specs.Logic.KnownTerm.{is_known};
@@ -8,7 +8,9 @@ ghost use Rattle.hol_model.specs.Refining.Conversions.{binder_fault, of_argument
 ghost use Rattle.hol_model.specs.Refining.Conversions as outcome;
 ghost use Rattle.hol_journal.specs.Journal.{Journal, IsMade, theorem_in};
 ghost use Rattle.hol_theorem_library.specs.Library.{IsLibrary};
-ghost use Rattle.hol_conv.specs.Makes.{Makes, Joins, Meets, IsRightSide};
+ghost use Rattle.hol_model.specs.declared.fault.Fault.TheVariants.{Memory};
+ghost use Rattle.hol_conv.specs.Makes.{Makes, StandsOn, Joins, Meets, IsRightSide};
+ghost use Rattle.hol_conv.specs.Converted.{same_theorem};
 
 use hol_alpha::aconv;
 use hol_equal::conclusion_of;
@@ -23,6 +25,7 @@ pub fn refl_known(library: &mut Library, term: &Term) -> Result<Rec, Fault>
     requires library { IsLibrary library.old }
     requires known { is_known library.old.recorder.theory term.now ≡ true }
     ensures makes { Makes library.old library.new result }
+    ensures stands { IfOk result (StandsOn library.old.recorder.theory) }
     ensures joins { Joins (refl_outcome library.old.recorder.theory term.now) (theorem_in result) }
 {
     library.recorder.infer_known(Inference::Refl(term))
@@ -36,6 +39,7 @@ pub fn trans_known(library: &mut Library, first: &Rec, second: &Rec) -> Result<R
     requires second { IsMade library.old.recorder second.now }
     requires meets { Meets first.now.theorem second.now.theorem }
     ensures makes { Makes library.old library.new result }
+    ensures stands { IfOk result (StandsOn library.old.recorder.theory) }
     ensures joins { Joins (trans_outcome library.old.recorder.theory first.now.theorem second.now.theorem) (theorem_in result) }
 {
     let _first = conclusion_of(&library.recorder, first);
@@ -45,12 +49,36 @@ pub fn trans_known(library: &mut Library, first: &Rec, second: &Rec) -> Result<R
         .infer_known(Inference::Trans(first, second))
 }
 
+/// TRANS of a theorem that stands on the library's theory, and of what REFL proves of its right side, is that theorem. Nothing is
+/// computed here: the clause is a law, for callers' proofs.
+pub fn adds_nothing(library: &Library, first: &Rec, right: &Term)
+    requires first { IsMade library.now.recorder first.now }
+    requires stands { StandsOn library.now.recorder.theory first.now }
+    requires side { IsRightSide first.now.theorem right.now }
+    ensures { trans_outcome library.now.recorder.theory first.now.theorem (same_theorem library.now.recorder.theory right.now) ≡ Ok first.now.theorem }
+{
+    let _conclusion = conclusion_of(&library.recorder, first);
+    library.recorder.thm(first).well_formed();
+}
+
+/// The same theorem.
+pub fn copied(library: &mut Library, made: &Rec) -> Result<Rec, Fault>
+    requires library { IsLibrary library.old }
+    requires made { IsMade library.old.recorder made.now }
+    ensures makes { Makes library.old library.new result }
+    ensures ok { IfOk result (λ copy. copy ≡ made.now) }
+    ensures err { IfErr result (λ fault. fault ≡ Memory) }
+{
+    made.copy(library.recorder.alloc())
+}
+
 /// MK_COMB: from `f = g` and `x = y`, `f x = g y`. Refused as the kernel's rule.
 pub fn mk_comb(library: &mut Library, first: &Rec, second: &Rec) -> Result<Rec, Fault>
     requires library { IsLibrary library.old }
     requires first { IsMade library.old.recorder first.now }
     requires second { IsMade library.old.recorder second.now }
     ensures makes { Makes library.old library.new result }
+    ensures stands { IfOk result (StandsOn library.old.recorder.theory) }
     ensures joins { Joins (of_parts library.old.recorder.theory (Ok first.now.theorem) (Ok second.now.theorem)) (theorem_in result) }
 {
     library.recorder.infer(Inference::MkComb(first, second))
@@ -62,6 +90,7 @@ pub fn ap_term(library: &mut Library, function: &Term, argument: &Rec) -> Result
     requires known { is_known library.old.recorder.theory function.now ≡ true }
     requires argument { IsMade library.old.recorder argument.now }
     ensures makes { Makes library.old library.new result }
+    ensures stands { IfOk result (StandsOn library.old.recorder.theory) }
     ensures joins { Joins (of_argument library.old.recorder.theory function.now (Ok argument.now.theorem)) (theorem_in result) }
 {
     let same = refl_known(library, function)?;
@@ -74,6 +103,7 @@ pub fn ap_thm(library: &mut Library, function: &Rec, argument: &Term) -> Result<
     requires function { IsMade library.old.recorder function.now }
     requires known { is_known library.old.recorder.theory argument.now ≡ true }
     ensures makes { Makes library.old library.new result }
+    ensures stands { IfOk result (StandsOn library.old.recorder.theory) }
     ensures joins { Joins (of_function library.old.recorder.theory argument.now (Ok function.now.theorem)) (theorem_in result) }
 {
     let same = refl_known(library, argument)?;
@@ -96,6 +126,7 @@ pub fn abs(library: &mut Library, binder: &Term, body: &Rec) -> Result<Rec, Faul
     requires library { IsLibrary library.old }
     requires body { IsMade library.old.recorder body.now }
     ensures makes { Makes library.old library.new result }
+    ensures stands { IfOk result (StandsOn library.old.recorder.theory) }
     ensures joins { (name : List ℕ) (ty : HolType) → binder.now ≡ variable name ty → Joins (of_body library.old.recorder.theory name ty (Ok body.now.theorem)) (theorem_in result) }
 {
     match library.recorder.infer(Inference::Abs(binder, body)) {

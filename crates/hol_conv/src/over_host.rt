@@ -1,13 +1,13 @@
 // The conversions without parts that expressions have.
-ghost use Rattle.std.specs.Prelude.{◌≡◌, true};
+ghost use Rattle.std.specs.Prelude.{◌≡◌, true, IfOk};
 ghost use Rattle.hol_model.specs.Logic.KnownTerm.{is_known};
 ghost use Rattle.hol_tactic_exprs.specs.Expressions.{conversion_of};
 ghost use Rattle.hol_journal.specs.Journal.{theorem_in};
 ghost use Rattle.hol_theorem_library.specs.Library.{IsLibrary, store_in};
-ghost use Rattle.hol_conv.specs.Makes.{Makes};
+ghost use Rattle.hol_conv.specs.Makes.{Makes, StandsOn, StandsIf};
 ghost use Rattle.hol_conv.specs.OneStep.{ConvertsInStep, RewritesByName};
 ghost use Rattle.hol_conv.specs.Prepared.{ArePrepared};
-ghost use Rattle.hol_conv.specs.Leaves.{IsLeaf};
+ghost use Rattle.hol_conv.specs.Leaves.{IsLeaf, is_made_anew};
 
 use crate::conversions::beta_conv;
 use crate::hosts::host_conv;
@@ -53,6 +53,7 @@ fn rewritten(library: &mut Library, prepared: &[NamedRules], name: &str, t: &Ter
     requires prepared { ArePrepared library.old prepared.now }
     requires known { is_known library.old.recorder.theory t.now ≡ true }
     ensures makes { Makes library.old library.new result }
+    ensures stands { IfOk result (StandsOn library.old.recorder.theory) }
     ensures rewrites { RewritesByName (store_in library.old) name.now t.now (theorem_in result) }
 {
     match prepared_for(prepared, name) {
@@ -75,6 +76,7 @@ fn one_step<H: Converters>(
     requires known { is_known library.old.recorder.theory t.now ≡ true }
     ensures converts { ConvertsInStep library.old.recorder.theory (store_in library.old) (H.conversions hosts.now) (conversion_of leaf.now) t.now (theorem_in result) }
     ensures makes { Makes library.old library.new result }
+    ensures stands { StandsIf (is_made_anew leaf.now) library.old.recorder.theory result }
 {
     match leaf {
         Conv::All => refl_known(library, t),

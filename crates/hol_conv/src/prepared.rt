@@ -5,7 +5,7 @@ ghost use Rattle.hol_model.specs.Logic.KnownTerm.{is_known};
 ghost use Rattle.hol_journal.specs.Journal.{theorem_in};
 ghost use Rattle.hol_prelude_derivations.specs.Derivations.{AreMade, theorems};
 ghost use Rattle.hol_theorem_library.specs.Library.{IsLibrary, IsContinued, store_in};
-ghost use Rattle.hol_conv.specs.Makes.{Makes};
+ghost use Rattle.hol_conv.specs.Makes.{Makes, StandsOn};
 ghost use Rattle.hol_conv.specs.OneStep.{RewritesByName};
 ghost use Rattle.hol_conv.specs.Prepared.{AreRulesOf, RefusesRules, IsPrepared, IsPreparedFor};
 
@@ -83,6 +83,7 @@ pub fn prepared_rewr_conv(
     requires prepared { IsPrepared library.old named.now }
     requires known { is_known library.old.recorder.theory term.now ≡ true }
     ensures makes { Makes library.old library.new result }
+    ensures stands { IfOk result (StandsOn library.old.recorder.theory) }
     ensures rewrites { RewritesByName (store_in library.old) (string_bytes named.now.name) term.now (theorem_in result) }
 {
     rules_conv(library, &named.rules, &named.choice, term)
@@ -94,6 +95,7 @@ pub fn rewr_conv(library: &mut Library, name: &str, term: &Term) -> Result<Rec, 
     requires library { IsLibrary library.old }
     requires known { is_known library.old.recorder.theory term.now ≡ true }
     ensures makes { Makes library.old library.new result }
+    ensures stands { IfOk result (StandsOn library.old.recorder.theory) }
     ensures rewrites { RewritesByName (store_in library.old) name.now term.now (theorem_in result) }
 {
     let named = rules_named(library, name)?;

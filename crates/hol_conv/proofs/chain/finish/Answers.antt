@@ -1,11 +1,18 @@
-use Rattle.std.proofs.Common.{rules, ◌≡◌, length, true, subst}
+use Rattle.std.proofs.Common.{rules, ◌≡◌, inl, length, true, false, sym, ap, subst, Result, Ok, Err}
+use Rattle.hol_model.specs.declared.fault.Fault.{Fault}
+use Rattle.hol_model.specs.declared.fault.Fault.TheVariants.{Memory}
 use Rattle.hol_model.specs.Terms.NamedTerm.{NamedTerm}
 use Rattle.hol_model.specs.Logic.KnownTerm.{is_known}
 use Rattle.hol_model.specs.Refining.Conversions.{is_caught}
-use Rattle.hol_conv.specs.Converted.{answered}
-use Rattle.hol_conv.proofs.Making.{makes_then}
+use Rattle.hol_model.specs.Kernel.Theorem.{Theorem}
+use Rattle.hol_laws_refiners.proofs.Repeating.{joined_from}
+use Rattle.hol_conv.specs.Makes.{Joins}
+use Rattle.hol_conv.specs.Converted.{same_theorem, answered}
+use Rattle.hol_conv.specs.Chains.{theorems}
+use Rattle.hol_conv.proofs.Making.{makes_nothing, makes_then}
+use Rattle.hol_conv.proofs.Standing.{said-so, said-not}
 use Rattle.hol_conv.proofs.Leading.{leads-up, reflects-equates}
-use Rattle.hol_conv.proofs.Chaining.{made-later, no-theorems, ends-empty, ends-joined, ends-unmade, joined-answer}
+use Rattle.hol_conv.proofs.Chaining.{made-later, no-theorems, ends-empty, ends-joined, ends-here, ends-unmade, joined-answer}
 use Rattle.hol_conv.proofs.chain.finish.Goals as goal
 
 pub same-requires-clause-known : goal.same-requires-clause-known
@@ -27,12 +34,12 @@ returns-in-Ok-clause-finishes c =
     let caught : is_caught c.args.fault ≡ true = search rules in
     ends-joined c.args.chain c.args.fault (answered c.args.library.now.recorder.theory c.args.chain.current c.same-last.result) c.in-Ok.last.theorem caught c.requires.chain.held.known
     c.same-last.ensures.reflects c.in-Ok.ensures.joins
-    (joined-answer c.args.t.now c.args.chain.theorems.items c.in-Ok.last.theorem c.joined.result c.as_answer.result c.in-Ok.ensures.makes.continued c.joined.ensures.joins c.as_answer.ensures.same)
+    (joined-answer c.args.t.now c.args.chain.theorems.items c.in-Ok.last.theorem false c.joined.result c.as_answer.result c.in-Ok.ensures.makes.continued c.joined.ensures.joins c.as_answer.ensures.same)
 
 pub returns-in-Ok-clause-makes : goal.returns-in-Ok-clause-makes
 returns-in-Ok-clause-makes c =
     c.as_answer.ensures.made c.args.library.now c.joined.new.library c.args.t.now
-    (makes_then c.args.library.now c.theorem.new.library c.joined.new.library c.theorem.result c.joined.result c.theorem.ensures.makes c.joined.ensures.makes)
+    (makes_then c.args.library.now c.theorem.new.library c.joined.new.library c.theorem.result c.joined.result c.theorem.ensures.makes c.joined.ensures.makes) (said-not c.joined.result)
 
 pub returns-in-Err-clause-finishes : goal.returns-in-Err-clause-finishes
 returns-in-Err-clause-finishes c =
@@ -44,3 +51,34 @@ joined-requires-clause-theorems c = made-later c.args.chain.theorems.items c.in-
 
 pub joined-requires-clause-lead : goal.joined-requires-clause-lead
 joined-requires-clause-lead c = leads-up c.requires.chain.held.lead (reflects-equates c.same-last.ensures.reflects c.in-Ok.ensures.joins)
+
+pub ended-requires-clause-chain : goal.ended-requires-clause-chain
+ended-requires-clause-chain c = c.requires.chain.held
+
+pub returns-then-stands_here-in-Ok-clause-finishes : goal.returns-then-stands_here-in-Ok-clause-finishes
+returns-then-stands_here-in-Ok-clause-finishes c =
+    let theory = c.args.library.now.recorder.theory in
+    let chain = c.args.chain in
+    let caught : is_caught c.args.fault ≡ true = search rules in
+    ends-here chain c.args.fault (answered theory chain.current c.same-last.result) _ caught c.requires.chain.held.known c.same-last.ensures.reflects
+    (ap (answered theory chain.current) c.in-Ok.is)
+    (subst (λ (answer : Result Theorem Fault). Joins (joined_from theory (theorems chain.theorems.items) (Ok (same_theorem theory chain.current))) answer)
+    (sym (c.as_answer.ensures.answered theory c.args.t.now)) c.ended.ensures.joins)
+
+pub returns-then-stands_here-in-Ok-clause-makes : goal.returns-then-stands_here-in-Ok-clause-makes
+returns-then-stands_here-in-Ok-clause-makes c =
+    c.as_answer.ensures.made c.args.library.now c.ended.new.library c.args.t.now c.ended.ensures.makes (said-so c.ended.result c.ended.ensures.stands)
+
+pub returns-then-stands_here-in-Err-clause-finishes : goal.returns-then-stands_here-in-Err-clause-finishes
+returns-then-stands_here-in-Err-clause-finishes c =
+    let theory = c.args.library.now.recorder.theory in
+    let caught : is_caught c.args.fault ≡ true = search rules in
+    ends-unmade c.args.chain c.args.fault (answered theory c.args.chain.current c.same-last.result) _ caught c.same-last.ensures.reflects
+    (inl (sym (ap (answered theory c.args.chain.current) c.in-Err.is)))
+
+pub returns-then-stands_here-in-Err-clause-makes : goal.returns-then-stands_here-in-Err-clause-makes
+returns-then-stands_here-in-Err-clause-makes c = record {
+  library = c.requires.library;
+  continued = (makes_nothing c.args.library.now Memory c.requires.library).continued;
+  made = tt;
+}

@@ -27,6 +27,7 @@ loop-theorem-preserved c =
       made-later c.pop.new.self.items makes.continued front.0,
       makes.made,
       front-leads _ c.pop.new.self.items c.in-Some.theorem c.loop-theorem.invariant.5 is c.in_ok-last.ensures.joins,
+      λ stands. c.in_ok-last.ensures.stands ∙ c.loop-theorem.invariant.1.theory,
     )
 
 pub trans_known-requires-clause-meets : goal.trans_known-requires-clause-meets

@@ -7,7 +7,7 @@ pub returns-in-Ok-clause-chain : goal.returns-in-Ok-clause-chain
 returns-in-Ok-clause-chain c =
     let makes = c.in_ok-same.ensures.makes in
     chain-behind c.args.chain _ c.in_ok-same.same makes.continued c.requires.chain makes.made c.in-Ok.ensures.items (refl-equates c.args.library.now.recorder.theory c.args.chain.current c.in_ok-same.ensures.joins)
-    (known-there c.args.chain.current makes.continued c.requires.chain.known) refl
+    (known-there c.args.chain.current makes.continued c.requires.chain.known) refl refl
 
 pub returns-in-Ok-clause-settles : goal.returns-in-Ok-clause-settles
 returns-in-Ok-clause-settles c =

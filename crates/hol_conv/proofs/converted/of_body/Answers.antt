@@ -1,6 +1,7 @@
 use Rattle.std.proofs.Common.{ap, ◌∙◌, Ok}
 use Rattle.hol_model.specs.declared.fault.Fault.TheVariants.{Memory}
 use Rattle.hol_conv.proofs.Making.{makes_nothing}
+use Rattle.hol_conv.proofs.Standing.{said-so}
 use Rattle.hol_conv.proofs.Same.{body-unchanged}
 use Rattle.hol_conv.proofs.converted.of_body.Goals as goal
 
@@ -18,4 +19,4 @@ returns-in-Ok-Same-clause-makes c = record {
 }
 
 pub returns-in-Ok-Changed-clause-makes : goal.returns-in-Ok-Changed-clause-makes
-returns-in-Ok-Changed-clause-makes c = c.as_answer.ensures.made c.args.library.now c.abs.new.library c.args.t.now c.abs.ensures.makes
+returns-in-Ok-Changed-clause-makes c = c.as_answer.ensures.made c.args.library.now c.abs.new.library c.args.t.now c.abs.ensures.makes (said-so c.abs.result c.abs.ensures.stands)

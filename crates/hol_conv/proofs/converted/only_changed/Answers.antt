@@ -11,4 +11,4 @@ returns-in-Same-clause-changed c theory =
 
 pub returns-in-Changed-clause-same : goal.returns-in-Changed-clause-same
 returns-in-Changed-clause-same c =
-    only-made c.in-Changed.made c.args.answer c.if_changed.result c.as_answer.result c.as_answer.ensures.same c.if_changed.ensures.same c.in-Changed.is
+    only-made c.in-Changed.made c.in-Changed.stands_here c.args.answer c.if_changed.result c.as_answer.result c.as_answer.ensures.same c.if_changed.ensures.same c.in-Changed.is

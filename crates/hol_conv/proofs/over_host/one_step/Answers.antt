@@ -1,6 +1,7 @@
 use Rattle.hol_theorem_library.specs.Library.{store_in}
 use Rattle.hol_conv.proofs.OneSteps.{converts_all, converts_no, converts_beta, converts_named}
 use Rattle.hol_journal.specs.Journal.{theorem_in}
+use Rattle.hol_conv.proofs.Standing.{said-so, said-not}
 use Rattle.hol_conv.proofs.over_host.one_step.Goals as goal
 
 pub returns-in-All-clause-converts : goal.returns-in-All-clause-converts
@@ -28,3 +29,15 @@ returns-in-Rewr-clause-converts g c depth left =
 pub returns-in-Host-clause-converts : goal.returns-in-Host-clause-converts
 returns-in-Host-clause-converts g c depth left =
     rw (c.in-Host.is, ← c.deref-in-Host.ensures) (c.host_conv.ensures.converts depth left)
+
+pub returns-in-All-clause-stands : goal.returns-in-All-clause-stands
+returns-in-All-clause-stands g c said = c.refl_known.ensures.stands
+
+pub returns-in-Beta-clause-stands : goal.returns-in-Beta-clause-stands
+returns-in-Beta-clause-stands g c said = c.beta_conv.ensures.stands
+
+pub returns-in-Rewr-clause-stands : goal.returns-in-Rewr-clause-stands
+returns-in-Rewr-clause-stands g c said = c.rewritten.ensures.stands
+
+pub returns-in-Host-clause-stands : goal.returns-in-Host-clause-stands
+returns-in-Host-clause-stands g c = rw c.in-Host.is (said-not c.host_conv.result)

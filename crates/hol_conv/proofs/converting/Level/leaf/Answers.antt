@@ -1,8 +1,9 @@
-use Rattle.std.proofs.Common.{sym, subst, Result}
+use Rattle.std.proofs.Common.{sym, subst, Bool, Result}
 use Rattle.hol_model.specs.declared.fault.Fault.{Fault}
 use Rattle.hol_model.specs.Kernel.Theorem.{Theorem}
 use Rattle.hol_model.specs.Refining.Conversions.{Converts}
 use Rattle.hol_theorem_library.specs.Library.{store_in}
+use Rattle.hol_conv.specs.Makes.{StandsIf}
 use Rattle.hol_conv.specs.Leaves.{stands_for}
 use Rattle.hol_conv.proofs.converting.Level.leaf.Goals as goal
 
@@ -17,4 +18,6 @@ returns-clause-converts g c depth =
     (sym (c.as_answer.ensures.answered library.recorder.theory c.args.t.now)) (c.try_leaf.ensures.converts depth)
 
 pub returns-clause-makes : goal.returns-clause-makes
-returns-clause-makes g c = c.as_answer.ensures.made c.args.library.now c.try_leaf.new.library c.args.t.now c.try_leaf.ensures.makes
+returns-clause-makes g c =
+    c.as_answer.ensures.made c.args.library.now c.try_leaf.new.library c.args.t.now c.try_leaf.ensures.makes
+    (subst (λ (stands : Bool). StandsIf stands c.args.library.now.recorder.theory c.try_leaf.result) (sym c.is_made_anew.ensures) c.try_leaf.ensures.stands)
