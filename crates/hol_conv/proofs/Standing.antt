@@ -9,19 +9,23 @@ use Rattle.hol_model.specs.Logic.Theory.{Theory, IsLegal}
 use Rattle.hol_model.specs.Logic.KnownTerm.{is_known}
 use Rattle.hol_model.specs.Texts.Reading.{◌>>=◌}
 use Rattle.hol_model.specs.Kernel.Outcome.{unless, given}
-use Rattle.hol_model.specs.Kernel.Theorem.{Theorem, IsWellFormed, are_alpha_equivalent}
+use Rattle.hol_model.specs.Kernel.Theorem.{Theorem, IsWellFormed, AreOrdered, are_alpha_equivalent, with_hypotheses}
 use Rattle.hol_model.specs.Kernel.Rules.{dest_equation, concluded, trans_outcome}
 use Rattle.hol_model.proofs.Tests.{first_of_both, same_term-Decides}
+use Rattle.hol_terms.specs.Binders.{has_abstractions}
+use Rattle.hol_laws_refiners.specs.Laws.{IsEquationOf}
 use Rattle.hol_laws_refiners.proofs.Equations.{equation-sides}
 use Rattle.hol_kernel.proofs.RuleLemmas.{sides}
+use Rattle.hol_kernel.proofs.OrderLemmas.{merge-none}
 use Rattle.hol_journal.specs.Journal.{Journal, Recorded, IsMade, theorem_in}
 use Rattle.hol_journal.specs.Growth.{Continues}
 use Rattle.hol_journal.proofs.GrowthLemmas.{journals-grow}
 use Rattle.hol_theorem_library.specs.Library.{IsLibrary, IsContinued}
 use Rattle.hol_theorem_library.specs.declared.library.Library.{Library}
 use Rattle.hol_equal.specs.Formulas.{IsFormula}
+use Rattle.hol_equal.proofs.Exact.{exact}
 use Rattle.hol_conv.specs.Makes.{Makes, StandsOn, StandsIf, Joins, IsRightSide}
-use Rattle.hol_conv.specs.Converted.{same_theorem, changed_by, to_refl, IsMadeFor, MakesAnswer}
+use Rattle.hol_conv.specs.Converted.{same_theorem, changed_by, from_refl, to_refl, IsMadeFor, MakesAnswer}
 use Rattle.hol_conv.proofs.Making.{makes_nothing}
 use Rattle.hol_conv.proofs.Same.{roomy-refl}
 
@@ -114,3 +118,46 @@ copied-joins theory first right (Ok copy) known roomy nothing same none =
         ap (λ (found : Result Theorem Fault). found >>= λ same. trans_outcome theory first.theorem same) (roomy-refl theory right known roomy) in
     inl (ap (λ (made : Recorded). Ok made.theorem) same ∙ sym (refl_is ∙ nothing))
 copied-joins theory first right (Err fault) known roomy nothing same none = inr (ap Err none)
+
+-- ---- TRANS of what REFL proves of a term in which nothing is bound, and a theorem of it
+
+trans-adds-nothing-before : (theory : Theory) (t left right : NamedTerm) (next : Theorem) → dest_equation next.conclusion ≡ Some (left, right) → next.conclusion ≡ equation left right → left ≡ t
+    → is_within_limits next.conclusion ≡ true → next.theory ≡ theory → AreOrdered next.hypotheses → trans_outcome theory (same_theorem theory t) next ≡ Ok next
+trans-adds-nothing-before theory t left right next is whole left_is fits stands ordered =
+    subst (λ (found : Option (NamedTerm × NamedTerm)). given found NotEquation (λ one. given (dest_equation next.conclusion) NotEquation (λ other. joined one other)) ≡ Ok next) (sym (equation-sides t t))
+    (subst (λ (found : Option (NamedTerm × NamedTerm)). given found NotEquation (λ other. joined (t, t) other) ≡ Ok next) (sym is)
+    (go (are_alpha_equivalent t left) (is_within_limits (equation t right)) ((same_term-Decides (image t) (image left)).1 (ap image (sym left_is)))
+    (subst (λ (c : NamedTerm). is_within_limits c ≡ true) whole_is fits)))
+  where
+    whole_is : next.conclusion ≡ equation t right
+    whole_is = whole ∙ ap (λ (u : NamedTerm). equation u right) left_is
+
+    joined : NamedTerm × NamedTerm → NamedTerm × NamedTerm → Result Theorem Fault
+    joined one other = unless (are_alpha_equivalent one.1 other.0) NotAlpha (concluded theory (with_hypotheses [] next.hypotheses) (equation one.0 other.1))
+
+    made : Theorem
+    made = record { theory = theory; hypotheses = with_hypotheses [] next.hypotheses; conclusion = equation t right }
+
+    same : made ≡ next
+    same = λ i. record { theory = sym stands i; hypotheses = merge-none next.hypotheses ordered i; conclusion = sym whole_is i }
+
+    go : (alike roomy : Bool) → alike ≡ true → roomy ≡ true → unless alike NotAlpha (unless roomy TooLarge (Ok made)) ≡ Ok next
+    go true true a b = ap Ok same
+    go true false a b = cc
+    go false roomy a b = cc
+
+pub nothing-added-before : (theory : Theory) → IsLegal theory → (t : NamedTerm) (next : Theorem) → IsFormula theory next.conclusion → IsWellFormed next → next.theory ≡ theory
+    → has_abstractions t ≡ false → IsEquationOf t next → trans_outcome theory (same_theorem theory t) next ≡ Ok next
+nothing-added-before theory legal t next formula well stands unbound of =
+    let whole = (sides theory legal next.conclusion of.sides.0 of.sides.1 formula.known of.is_equation).is in
+    let fits = first_of_both (is_within_limits next.conclusion) (list_all is_within_limits next.hypotheses) well.within_limits in
+    trans-adds-nothing-before theory t of.sides.0 of.sides.1 next of.is_equation whole (exact of.sides.0 t unbound of.same_left) fits stands well.is_theorem.ordered
+
+pub copied-joins-before : (theory : Theory) (t : NamedTerm) (next : Recorded) (result : Result Recorded Fault) → is_known theory t ≡ true → is_within_limits (equation t t) ≡ true
+    → trans_outcome theory (same_theorem theory t) next.theorem ≡ Ok next.theorem → IfOk result (λ copy. copy ≡ next) → IfErr result (λ fault. fault ≡ Memory)
+    → Joins (from_refl theory t next.theorem) (theorem_in result)
+copied-joins-before theory t next (Ok copy) known roomy nothing same none =
+    let refl_is : from_refl theory t next.theorem ≡ trans_outcome theory (same_theorem theory t) next.theorem =
+        ap (λ (found : Result Theorem Fault). found >>= λ same. trans_outcome theory same next.theorem) (roomy-refl theory t known roomy) in
+    inl (ap (λ (made : Recorded). Ok made.theorem) same ∙ sym (refl_is ∙ nothing))
+copied-joins-before theory t next (Err fault) known roomy nothing same none = inr (ap Err none)

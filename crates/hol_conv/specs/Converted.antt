@@ -1,11 +1,12 @@
 -- What the answers of conversions stand for.
-use Rattle.std.specs.Prelude.{◌≡◌, [], Bool, true, Result, Ok, Err, IfOk}
+use Rattle.std.specs.Prelude.{◌≡◌, [], Bool, true, false, Result, Ok, Err, IfOk}
 use Rattle.hol_model.specs.declared.fault.Fault.{Fault}
 use Rattle.hol_model.specs.Terms.NamedTerm.{NamedTerm, equation, is_within_limits}
 use Rattle.hol_model.specs.Logic.Theory.{Theory}
 use Rattle.hol_model.specs.Kernel.Theorem.{Theorem}
 use Rattle.hol_model.specs.Texts.Reading.{◌>>=◌}
 use Rattle.hol_model.specs.Kernel.Rules.{refl_outcome, trans_outcome}
+use Rattle.hol_terms.specs.Binders.{has_abstractions}
 use Rattle.hol_journal.specs.Journal.{Recorded, IsMade}
 use Rattle.hol_theorem_library.specs.Library.{IsLibrary, IsContinued}
 use Rattle.hol_theorem_library.specs.declared.library.Library.{Library}
@@ -35,6 +36,12 @@ changed_by stands (Err fault) = Err fault
 pub record IsMadeFor (library : Library) (stands_here : Bool) (made : Recorded) : Type 0 where
   pub is_made : IsMade library.recorder made
   pub stands : stands_here ≡ true → StandsOn library.recorder.theory made
+
+-- a theorem of the term is said to stand on the recorder's theory, and nothing is bound in the term, so that the theorem's left side is just the
+-- term
+pub record IsExact (t : NamedTerm) (stands_here : Bool) : Type 0 where
+  pub said : stands_here ≡ true
+  pub unbound : has_abstractions t ≡ false
 
 -- that nothing changes is answered where REFL has room; another theorem is the recorder's
 abbrev pub IsAnswerOf : Library → NamedTerm → Converted → Type 0

@@ -1,5 +1,5 @@
 // Answers of conversions, which may be that nothing changes: then no theorem is made.
-ghost use Rattle.std.specs.Prelude.{◌≡◌, ℕ, List, true, Ok, IfOk, IsSome};
+ghost use Rattle.std.specs.Prelude.{◌≡◌, ℕ, List, true, Ok, IfOk, IsSome, IsTrue};
 ghost use Rattle.hol_model.specs.Terms.HolType.{HolType};
 ghost use Rattle.hol_model.specs.Terms.NamedTerm.{NamedTerm, variable, combination, abstraction, equation, is_within_limits};
 ghost use Rattle.hol_model.specs.Logic.Theory.{Theory};
@@ -12,10 +12,10 @@ ghost use Rattle.hol_journal.specs.Journal.{IsMade, theorem_in};
 ghost use Rattle.hol_theorem_library.specs.Library.{IsLibrary};
 ghost use Rattle.hol_theorem_library.specs.declared.library.Library as library;
 ghost use Rattle.hol_conv.specs.Makes.{Makes, StandsOn, StandsIf, Joins, IsRightSide};
-ghost use Rattle.hol_conv.specs.Converted.{same_theorem, theorem_of, answered, changed_by, IsMadeFor, IsAnswerOf, IsHeldIn, MakesAnswer, from_refl, to_refl};
+ghost use Rattle.hol_conv.specs.Converted.{same_theorem, theorem_of, answered, changed_by, IsMadeFor, IsExact, IsAnswerOf, IsHeldIn, MakesAnswer, from_refl, to_refl};
 
 use crate::joins::{
-    abs, adds_nothing, ap_term, ap_thm, copied, if_changed, mk_comb, refl_known, right_side,
+    abs, adds_nothing, adds_nothing_before, ap_term, ap_thm, copied, if_changed, mk_comb, refl_known, right_side,
     trans_known,
 };
 use crate::parts::Halves;
@@ -166,16 +166,34 @@ pub fn of_body(library: &mut Library, t: &Term, binder: &Term, part: Answer) -> 
     }
 }
 
-// TRANS of what REFL proves and a theorem.
-fn from_same(library: &mut Library, t: &Term, next: &Rec) -> Result<Rec, Fault>
+// Whether a theorem that says that the term equals something says just this, and stands on the library's theory where it is said to: nothing
+// is bound in the term.
+fn is_exact(t: &Term, stands_here: bool) -> bool
+    ensures { IsTrue result → IsExact t.now stands_here }
+{
+    stands_here && !t.has_binders()
+}
+
+// TRANS of what REFL proves and a theorem: the theorem itself where it stands on the library's theory, and nothing is bound in the term.
+fn from_same(
+    library: &mut Library,
+    t: &Term,
+    next: &Rec,
+    stands_here: bool,
+) -> Result<Rec, Fault>
     requires library { IsLibrary library.old }
     requires known { is_known library.old.recorder.theory t.now ≡ true }
-    requires next { IsMade library.old.recorder next.now }
+    requires roomy { is_within_limits (equation t.now t.now) ≡ true }
+    requires next { IsMadeFor library.old stands_here next.now }
     requires equation { IsEquationOf t.now next.now.theorem }
     ensures makes { Makes library.old library.new result }
     ensures stands { IfOk result (StandsOn library.old.recorder.theory) }
     ensures joins { Joins (from_refl library.old.recorder.theory t.now next.now.theorem) (theorem_in result) }
 {
+    if is_exact(t, stands_here) {
+        adds_nothing_before(library, t, next);
+        return copied(library, next);
+    }
     let same = refl_known(library, t)?;
     trans_known(library, &same, next)
 }
@@ -204,8 +222,8 @@ fn to_same(
     trans_known(library, first, &same)
 }
 
-/// TRANS of an answer on a known term and one on its right side, which nothing is compared for. A theorem in front is joined for
-/// nothing only where it may stand on an earlier theory, one behind always: it may have other bound names on its left side.
+/// TRANS of an answer on a known term and one on its right side, which nothing is compared for. A theorem is joined to nothing only where it
+/// may stand on an earlier theory, or, behind, where it may have other bound names on its left side.
 pub fn then(
     library: &mut Library,
     t: &Term,
@@ -228,7 +246,9 @@ pub fn then(
     match first {
         Converted::Same => match next {
             Converted::Same => Ok(Converted::Same),
-            Converted::Changed(next, _) => as_answer(from_same(library, t, &next), true),
+            Converted::Changed(next, stands_here) => {
+                as_answer(from_same(library, t, &next, stands_here), true)
+            }
         },
         Converted::Changed(first, stands_here) => match next {
             Converted::Same => as_answer(to_same(library, first, *stands_here, right), true),

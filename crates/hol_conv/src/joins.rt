@@ -1,11 +1,13 @@
 // The rules by which theorems of conversions are joined.
-ghost use Rattle.std.specs.Prelude.{◌≡◌, ℕ, List, true, Ok, IfOk, IfErr, IsSome};
+ghost use Rattle.std.specs.Prelude.{◌≡◌, ℕ, List, true, false, Ok, IfOk, IfErr, IsSome};
 ghost use Rattle.hol_model.specs.Terms.HolType.{HolType};
 ghost use Rattle.hol_model.specs.Terms.NamedTerm.{variable};
 ghost use Rattle.hol_model.specs.Logic.KnownTerm.{is_known};
 ghost use Rattle.hol_model.specs.Kernel.Rules.{dest_equation, refl_outcome, trans_outcome};
 ghost use Rattle.hol_model.specs.Refining.Conversions.{binder_fault, of_argument, of_function, of_parts, of_body};
 ghost use Rattle.hol_model.specs.Refining.Conversions as outcome;
+ghost use Rattle.hol_terms.specs.Binders.{has_abstractions};
+ghost use Rattle.hol_laws_refiners.specs.Laws.{IsEquationOf};
 ghost use Rattle.hol_journal.specs.Journal.{Journal, IsMade, theorem_in};
 ghost use Rattle.hol_theorem_library.specs.Library.{IsLibrary};
 ghost use Rattle.hol_model.specs.declared.fault.Fault.TheVariants.{Memory};
@@ -59,6 +61,19 @@ pub fn adds_nothing(library: &Library, first: &Rec, right: &Term)
 {
     let _conclusion = conclusion_of(&library.recorder, first);
     library.recorder.thm(first).well_formed();
+}
+
+/// TRANS of what REFL proves of a term in which nothing is bound, and of a theorem of it that stands on the library's theory, is that
+/// theorem. Nothing is computed here: the clause is a law, for callers' proofs.
+pub fn adds_nothing_before(library: &Library, t: &Term, next: &Rec)
+    requires next { IsMade library.now.recorder next.now }
+    requires stands { StandsOn library.now.recorder.theory next.now }
+    requires unbound { has_abstractions t.now ≡ false }
+    requires equation { IsEquationOf t.now next.now.theorem }
+    ensures { trans_outcome library.now.recorder.theory (same_theorem library.now.recorder.theory t.now) next.now.theorem ≡ Ok next.now.theorem }
+{
+    let _conclusion = conclusion_of(&library.recorder, next);
+    library.recorder.thm(next).well_formed();
 }
 
 /// The same theorem.

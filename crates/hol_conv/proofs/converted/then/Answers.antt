@@ -43,3 +43,10 @@ to_same-requires-clause-first c = subst (λ (first : Converted). IsAnswerOf c.ar
 pub to_same-requires-clause-roomy : goal.to_same-requires-clause-roomy
 to_same-requires-clause-roomy c =
     subst (λ (next : Result Converted Fault). IfOk next (IsAnswerOf c.args.library.now c.args.right.now)) (c.in_ok-next.was ∙ ap Ok c.in-Same-next-2.is) c.requires.next
+
+pub from_same-requires-clause-next : goal.from_same-requires-clause-next
+from_same-requires-clause-next c =
+    subst (λ (next : Result Converted Fault). IfOk next (IsAnswerOf c.args.library.now c.args.right.now)) (c.in_ok-next.was ∙ ap Ok c.in-Changed-next.is) c.requires.next
+
+pub from_same-requires-clause-roomy : goal.from_same-requires-clause-roomy
+from_same-requires-clause-roomy c = subst (λ (first : Converted). IsAnswerOf c.args.library.now c.args.t.now first) c.in-Same.is c.requires.first
