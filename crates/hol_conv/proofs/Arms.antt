@@ -16,7 +16,7 @@ use Rattle.hol_model.specs.Refining.Conversions.{rand_conv, rator_conv, abs_conv
 use Rattle.hol_model.specs.Refining.Conversions.{Converts, is_caught, of_argument, of_function, of_body, of_parts, if_changed, lacks_part}
 use Rattle.hol_laws_refiners.specs.Laws.{IsEquationOf}
 use Rattle.hol_laws_refiners.proofs.Equations.{conversions-answer-equations}
-use Rattle.hol_laws_refiners.proofs.Repeating.{IsFinal, onto, JoinedSoFar, joined_defined, joined_tried, joined_next}
+use Rattle.hol_laws_refiners.proofs.Repeating.{IsFinal, onto, JoinedSoFar, joined_defined, joined_tried}
 use Rattle.hol_laws_refiners.proofs.Chains.{ThencSoFar}
 use Rattle.hol_laws_refiners.proofs.Spending.{converts-spends}
 use Rattle.hol_journal.specs.Journal.{Recorded, theorem_in}
@@ -25,7 +25,7 @@ use Rattle.hol_theorem_library.specs.declared.library.Library.{Library}
 use Rattle.hol_conv.specs.Makes.{Joins, IsRightSide}
 use Rattle.hol_conv.specs.declared.converted.Converted.{Converted}
 use Rattle.hol_conv.specs.Converted.{theorem_of, answered, IsAnswerOf, MakesAnswer}
-use Rattle.hol_conv.specs.Answers.{ConvertsOver, AnswersOver}
+use Rattle.hol_conv.specs.Answers.{ConvertsOver, AnswersOver, top_depth_again, rest_of_top_depth}
 use Rattle.hol_conv.specs.Parts.{AreParts, AreBoundParts}
 use Rattle.hol_conv.specs.Chains.{Tries, Links, IsExtended, proved_by}
 use Rattle.hol_conv.specs.declared.chain.Chain.{Chain}
@@ -259,16 +259,7 @@ changed-makes {old} {new} {t} made result makes is = record { library = makes.li
     go (Ok found) is = subst (λ (made : Result Converted Fault). IfOk made (IsAnswerOf new t)) is makes.made
     go (Err fault) is = tt
 
--- TOP_DEPTH_CONV, as it is defined
-abbrev pub top-rest : Conversion → Conversion
-top-rest c = conv.try_conv (thenc (changed_conv (sub_conv (top_depth_conv c))) (one_more (conv.try_conv (thenc c (one_more (top_depth_conv c))))))
-
-pub top-start : {theory : Theory} {store : Store} {hosts : HostConversions} {depth first steps : ℕ} {whole c : Conversion} {t current : NamedTerm} {proved : List Theorem} → whole ≡ top_depth_conv c
-    → JoinedSoFar theory store hosts depth first whole t steps whole proved current
-    → JoinedSoFar theory store hosts depth first whole t steps (thenc (repeatc c) (one_more (top-rest c))) proved current
-top-start {theory} {store} {hosts} {depth} {first} {steps} {whole} {c} {t} {current} {proved} is so_far =
-    joined_defined theory store hosts depth refl (subst (λ (w : Conversion). JoinedSoFar theory store hosts depth first whole t steps w proved current) is so_far)
-
+-- TOP_DEPTH_CONV
 pub top-below : {theory : Theory} {store : Store} {hosts : HostConversions} {depth steps left : ℕ} {whole c : Conversion} {t : NamedTerm} (made : Result Converted Fault) → whole ≡ top_depth_conv c
     → AnswersAt theory store hosts depth steps (sub_conv whole) t made left → AnswersAt theory store hosts depth steps (sub_conv (top_depth_conv c)) t made left
 top-below {theory} {store} {hosts} {depth} {steps} {left} {t} made is r = subst (λ (w : Conversion). AnswersAt theory store hosts depth steps (sub_conv w) t made left) is r
@@ -282,15 +273,15 @@ top-refused {theory} {store} {hosts} {depth} {steps} {left} {t} {fault} is r =
 pub top-tried : {old new : Library} {hosts : HostConversions} {depth steps mid left : ℕ} {whole c : Conversion} {t : NamedTerm} {fault : Fault} {under : Result Converted Fault}
     (last : Result Converted Fault) → whole ≡ top_depth_conv c → AnswersOver old hosts depth steps (sub_conv whole) t under mid → MakesAnswer old new t under
     → Err fault ≡ if_changed t (answered old.recorder.theory t under) → Tries new.recorder.theory t (Err fault) mid (answered new.recorder.theory t last) left
-    → AnswersOver old hosts depth steps (top-rest c) t last left
+    → AnswersOver old hosts depth steps (rest_of_top_depth c) t last left
 top-tried {c} {fault} {under} last whole_is r makes is tries =
     let refused = changed-arm under (Err fault) (top-below under whole_is r) is in
-    try-arm {c = thenc (changed_conv (sub_conv (top_depth_conv c))) (one_more (conv.try_conv (thenc c (one_more (top_depth_conv c)))))} {made = Err fault} last
+    try-arm {c = thenc (changed_conv (sub_conv (top_depth_conv c))) (one_more (top_depth_again c))} {made = Err fault} last
     (conv.first_is_refused refused) (changed-makes under (Err fault) makes tt) tries
 
 pub top-ends : {old mid new : Library} {hosts : HostConversions} {depth steps first left : ℕ} {whole c : Conversion} {t right : NamedTerm} {begun : Converted}
     (last result : Result Converted Fault) → whole ≡ top_depth_conv c → AnswersOver old hosts depth steps (repeatc c) t (Ok begun) first → MakesAnswer old mid t (Ok begun)
-    → IsRightSide (theorem_of mid.recorder.theory t begun) right → AnswersOver mid hosts depth first (top-rest c) right last left → IsContinued mid new
+    → IsRightSide (theorem_of mid.recorder.theory t begun) right → AnswersOver mid hosts depth first (rest_of_top_depth c) right last left → IsContinued mid new
     → Joins (onto new.recorder.theory (theorem_of new.recorder.theory t begun) (answered new.recorder.theory right last)) (answered new.recorder.theory t result)
     → AnswersOver old hosts depth steps whole t result left
 top-ends {old} {hosts} {depth} {steps} {left} {t} {right} {begun} last result whole_is r one side s continued joins =
@@ -299,20 +290,16 @@ top-ends {old} {hosts} {depth} {steps} {left} {t} {right} {begun} last result wh
     (conv.converts_as_defined refl (then-answers _ _ _ (answered old.recorder.theory right last) r (side-before t begun one.continued side).is (carried-answer last one.continued s) joins))
 
 -- where something does
-pub top-on : {old mid new : Library} {hosts : HostConversions} {depth steps first left : ℕ} {whole c : Conversion} {t right : NamedTerm} {begun : Converted}
-    (under : Result Converted Fault) (found : Converted) (chain : Chain)
-    → whole ≡ top_depth_conv c → AnswersOver old hosts depth steps (repeatc c) t (Ok begun) first → MakesAnswer old mid t (Ok begun)
-    → IsRightSide (theorem_of mid.recorder.theory t begun) right → AnswersOver mid hosts depth first (sub_conv whole) right under left
-    → Ok (theorem_of mid.recorder.theory right found) ≡ if_changed right (answered mid.recorder.theory right under) → IsContinued mid new
-    → IsExtended new.recorder.theory (theorem_of new.recorder.theory t begun ∷ []) (theorem_of new.recorder.theory right found) chain
-    → JoinedSoFar old.recorder.theory (store_in old) hosts depth steps whole t left (conv.try_conv (thenc c (one_more (top_depth_conv c)))) (proved_by old.recorder.theory chain) chain.current
-top-on {old} {hosts} {depth} {steps} {first} {whole} {c} {t} {right} {begun} under found chain whole_is r one side s is continued extends =
-    let start : JoinedSoFar old.recorder.theory (store_in old) hosts depth steps whole t steps whole [] t = record { decides = λ answer rest final s. (s, final) } in
-    let so_far = joined_next _ _ _ _ (top-start whole_is start) r (side-before t begun one.continued side).is in
-    let so_far = joined_tried _ _ _ _ (joined_defined _ _ _ _ refl so_far) in
-    let below = carried-answer (Ok found) one.continued (changed-arm under (Ok found) (top-below under whole_is s) is) in
-    let extends = subst (λ (theory : Theory). IsExtended theory (theorem_of theory t begun ∷ []) (theorem_of theory right found) chain) (continued-twice one.continued continued).theory extends in
-    links-on _ _ _ _ (Ok (theorem_of old.recorder.theory right found)) chain so_far below (extends, refl)
+pub top-on : {old mid : Library} {hosts : HostConversions} {depth steps left : ℕ} {whole c : Conversion} {t : NamedTerm} (under : Result Converted Fault) (found : Converted) (chain : Chain)
+    → whole ≡ top_depth_conv c → AnswersOver old hosts depth steps (sub_conv whole) t under left → Ok (theorem_of old.recorder.theory t found) ≡ if_changed t (answered old.recorder.theory t under)
+    → IsContinued old mid → IsExtended mid.recorder.theory [] (theorem_of mid.recorder.theory t found) chain
+    → JoinedSoFar old.recorder.theory (store_in old) hosts depth steps (rest_of_top_depth c) t left (top_depth_again c) (proved_by old.recorder.theory chain) chain.current
+top-on {old} {hosts} {depth} {steps} {whole} {c} {t} under found chain whole_is r is continued extends =
+    let start : JoinedSoFar old.recorder.theory (store_in old) hosts depth steps (rest_of_top_depth c) t steps (rest_of_top_depth c) [] t = record { decides = λ answer rest final s. (s, final) } in
+    let so_far = joined_tried _ _ _ _ (joined_defined _ _ _ _ refl start) in
+    let below = changed-arm under (Ok found) (top-below under whole_is r) is in
+    let extends = subst (λ (theory : Theory). IsExtended theory [] (theorem_of theory t found) chain) continued.theory extends in
+    links-on _ _ _ _ (Ok (theorem_of old.recorder.theory t found)) chain so_far below (extends, refl)
 
 pub as-conv : {theory : Theory} {store : Store} {hosts : HostConversions} {depth steps left : ℕ} {c d : Conversion} {t : NamedTerm} {answer : Result Theorem Fault} → c ≡ d
     → Converts theory store hosts depth steps d t answer left → Converts theory store hosts depth steps c t answer left
@@ -336,13 +323,4 @@ pub starved-behind : (old : Library) {hosts : HostConversions} {depth steps left
     → AnswersOver old hosts depth steps c t made left → fault ≡ Memory → Converts old.recorder.theory (store_in old) hosts depth steps whole t (Err fault) left
 starved-behind old {hosts} {depth} {steps} {left} {whole} {t} made r is =
     let le : left ≤ steps = converts-spends _ _ _ r in
-    subst (λ (fault : Fault). Converts old.recorder.theory (store_in old) hosts depth steps whole t (Err fault) left) (sym is) (conv.finds_no_memory le)
-
-pub starved-twice : {old mid : Library} {hosts : HostConversions} {depth steps first left : ℕ} {c d whole : Conversion} {t u : NamedTerm} {fault : Fault} (made next : Result Converted Fault)
-    → IsContinued old mid → AnswersOver old hosts depth steps c t made first → AnswersOver mid hosts depth first d u next left → fault ≡ Memory
-    → Converts old.recorder.theory (store_in old) hosts depth steps whole t (Err fault) left
-starved-twice {old} {hosts} {depth} {steps} {first} {left} {whole} {t} made next continued r s is =
-    let one : first ≤ steps = converts-spends _ _ _ r in
-    let two : left ≤ first = converts-spends _ _ _ s in
-    let le : left ≤ steps = omega (arith, one, two) in
     subst (λ (fault : Fault). Converts old.recorder.theory (store_in old) hosts depth steps whole t (Err fault) left) (sym is) (conv.finds_no_memory le)

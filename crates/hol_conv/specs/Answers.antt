@@ -4,7 +4,7 @@ use Rattle.hol_model.specs.declared.fault.Fault.{Fault}
 use Rattle.hol_model.specs.Terms.NamedTerm.{NamedTerm}
 use Rattle.hol_model.specs.Logic.KnownTerm.{is_known}
 use Rattle.hol_model.specs.Refining.HostFunctions.{HostConversions}
-use Rattle.hol_model.specs.Refining.Conversions.{Conversion, try_conv, thenc, one_more, top_depth_conv, Converts}
+use Rattle.hol_model.specs.Refining.Conversions.{Conversion, try_conv, changed_conv, sub_conv, thenc, one_more, top_depth_conv, Converts}
 use Rattle.hol_laws_refiners.proofs.Repeating.{IsFinal, JoinedSoFar}
 use Rattle.hol_journal.specs.Journal.{Recorded, theorem_in}
 use Rattle.hol_theorem_library.specs.Library.{IsLibrary, store_in}
@@ -39,3 +39,7 @@ AnswersBehind library hosts depth whole t rest chain steps result left =
 -- what TOP_DEPTH_CONV goes on with where something has changed below
 abbrev pub top_depth_again : Conversion → Conversion
 top_depth_again c = try_conv (thenc c (one_more (top_depth_conv c)))
+
+-- what it goes on with behind REPEATC
+abbrev pub rest_of_top_depth : Conversion → Conversion
+rest_of_top_depth c = try_conv (thenc (changed_conv (sub_conv (top_depth_conv c))) (one_more (top_depth_again c)))

@@ -276,30 +276,6 @@ pub(crate) fn begin_by(library: &mut Library, t: &Term, answer: Converted) -> Re
     extended(library, chain, answer)
 }
 
-/// The chain of an answer on a known term, and of one on its right side.
-pub(crate) fn begin_twice(
-    library: &mut Library,
-    t: &Term,
-    first: Converted,
-    second: Converted,
-) -> Result<Chain, Fault>
-    requires library { IsLibrary library.old }
-    requires known { is_known library.old.recorder.theory t.now ≡ true }
-    requires first { IsAnswerOf library.old t.now first }
-    requires equation { IsEquationOf t.now (theorem_of library.old.recorder.theory t.now first) }
-    requires second { (right : NamedTerm) → IsRightSide (theorem_of library.old.recorder.theory t.now first) right → IsAnswerOf library.old right second }
-    requires next { (right : NamedTerm) → IsRightSide (theorem_of library.old.recorder.theory t.now first) right → IsEquationOf right (theorem_of library.old.recorder.theory right second) }
-    ensures library { IsLibrary library.new }
-    ensures continued { IsContinued library.old library.new }
-    ensures chain { IfOk result (IsChainFrom library.new t.now) }
-    ensures extends { (right : NamedTerm) → IsRightSide (theorem_of library.old.recorder.theory t.now first) right
-        → IfOk result (IsExtended library.old.recorder.theory (theorem_of library.old.recorder.theory t.now first ∷ []) (theorem_of library.old.recorder.theory right second)) }
-    ensures err { IfErr result (λ fault. fault ≡ Memory) }
-{
-    let chain = begin_by(library, t, first)?;
-    extended(library, chain, second)
-}
-
 /// A chain that goes on, or what is answered behind it.
 #[derive(Drop)]
 pub(crate) enum Linked {

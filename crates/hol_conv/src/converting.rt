@@ -7,10 +7,10 @@ ghost use Rattle.hol_tactic_exprs.specs.Expressions.{conversion_of};
 ghost use Rattle.hol_conv.specs.Makes.{Makes};
 ghost use Rattle.hol_conv.specs.Converted.{answered, MakesAnswer};
 ghost use Rattle.hol_conv.specs.Leaves.{IsLeaf, stands_for, thenc_of, orelsec_of};
-ghost use Rattle.hol_conv.specs.Answers.{IsAsked, ConvertsOver, AnswersOver, AnswersBehind, top_depth_again};
+ghost use Rattle.hol_conv.specs.Answers.{IsAsked, ConvertsOver, AnswersOver, AnswersBehind, top_depth_again, rest_of_top_depth};
 ghost use Rattle.hol_conv.specs.Chains.{IsChainFrom};
 
-use crate::chain::{Chain, Linked, begin_by, begin_twice, changed, link, or_same, same};
+use crate::chain::{Chain, Linked, begin_by, changed, link, or_same, same};
 use crate::converted::{
     Answer, as_answer, of_argument, of_body, of_function, of_parts, right_of, then, theorem,
 };
@@ -310,7 +310,7 @@ impl<L: Leaves> Level<'_, L> {
         }
     }
 
-    // TOP_DEPTH_CONV, joined by TRANS from the right. No chain is begun where nothing below changes.
+    // TOP_DEPTH_CONV: REPEATC, and the rest on its right side.
     #[cycle(converted)]
     fn top_depth_conv(&self, library: &mut Library, deep: Deep, t: &Term, fuel: &mut Fuel) -> Answer
         requires whole { conversion_of deep.conv.now ≡ conversions.top_depth_conv (conversion_of deep.part.now) }
@@ -321,20 +321,30 @@ impl<L: Leaves> Level<'_, L> {
     {
         let begun = self.repeatc(library, deep.part, t, fuel)?;
         let right = right_of(library, t, &begun);
-        let under = self.sub_conv(library, deep.conv, right, fuel);
-        let found = match changed(right, under) {
+        let rest = self.top_depth_rest(library, deep, right, fuel);
+        then(library, t, &begun, right, rest)
+    }
+
+    // What TOP_DEPTH_CONV goes on with behind REPEATC, joined by TRANS from the right. No chain is begun where nothing below changes.
+    #[cycle(converted)]
+    fn top_depth_rest(&self, library: &mut Library, deep: Deep, t: &Term, fuel: &mut Fuel) -> Answer
+        requires whole { conversion_of deep.conv.now ≡ conversions.top_depth_conv (conversion_of deep.part.now) }
+        requires asked { IsAsked (L.is_ready self.now.leaves.now) library.old t.now }
+        ensures converts { AnswersOver library.old (L.hosts self.now.leaves.now) self.now.depth fuel.old.left
+            (rest_of_top_depth (stands_for (L.means self.now.leaves.now) deep.entry.part.now)) t.now result fuel.new.left }
+        ensures makes { MakesAnswer library.old library.new t.now result }
+    {
+        let under = self.sub_conv(library, deep.conv, t, fuel);
+        let found = match changed(t, under) {
             Ok(found) => found,
-            Err(fault) => {
-                let last = or_same(library, right, Err(fault), fuel);
-                return then(library, t, &begun, right, last);
-            }
+            Err(fault) => return or_same(library, t, Err(fault), fuel),
         };
-        let chain = begin_twice(library, t, begun, found)?;
+        let chain = begin_by(library, t, found)?;
         self.top_depth_on(library, deep, t, chain, fuel)
     }
 
-    // What TOP_DEPTH_CONV comes to on a term behind a chain from it, where something has changed below. It stands apart, since
-    // most terms begin no chain.
+    // What that rest comes to on a term behind a chain from it, where something has changed below. It stands apart, since most terms begin no
+    // chain.
     #[cycle(converted)]
     fn top_depth_on(
         &self,
@@ -347,7 +357,7 @@ impl<L: Leaves> Level<'_, L> {
         requires whole { conversion_of deep.conv.now ≡ conversions.top_depth_conv (conversion_of deep.part.now) }
         requires asked { IsAsked (L.is_ready self.now.leaves.now) library.old t.now }
         requires chain { IsChainFrom library.old t.now chain }
-        ensures converts { AnswersBehind library.old (L.hosts self.now.leaves.now) self.now.depth (stands_for (L.means self.now.leaves.now) deep.entry.conv.now) t.now
+        ensures converts { AnswersBehind library.old (L.hosts self.now.leaves.now) self.now.depth (rest_of_top_depth (stands_for (L.means self.now.leaves.now) deep.entry.part.now)) t.now
             (top_depth_again (stands_for (L.means self.now.leaves.now) deep.entry.part.now)) chain fuel.old.left result fuel.new.left }
         ensures makes { MakesAnswer library.old library.new t.now result }
     {

@@ -14,12 +14,12 @@ use Rattle.hol_conv.specs.Chains.{proved_by}
 use Rattle.hol_conv.proofs.Sizes.{size, size_of, sizes_of, size_in}
 use Rattle.hol_conv.proofs.Expressions.{then_stands, or_else_stands, then_size, or_else_size, rest-drop}
 use Rattle.hol_conv.proofs.Choosing.{chooses_next, chooses_answer, chooses_stop, chooses_end}
-use Rattle.hol_conv.proofs.Chaining.{chain-later, on-side-answers, on-side-equation}
+use Rattle.hol_conv.proofs.Chaining.{chain-later}
 use Rattle.hol_conv.proofs.Asking.{of-argument, known-later, asks-now, asks-later, answers-after, still-answers, held-answer}
 use Rattle.hol_conv.proofs.Asking.{side-later, equation-later, carried, carried-answer, carried-behind, continued-twice}
 use Rattle.hol_conv.proofs.Answering.{is-equation, reflects-leaf, first-part-refused, parts-too-deep, rand-refused, rator-refused, abs-refused}
 use Rattle.hol_conv.proofs.Arms.{argument-arm, function-arm, body-arm, parts-arm, try-arm, once-arm, once-answers, once-stops, depth-arm, depth-stops, thenc-on, thenc-off, thenc-equation}
-use Rattle.hol_conv.proofs.Arms.{first-on, first-off, link-on, link-off, link-stop, link-costs, link-equations, changed-arm, changed-makes, as-conv, sub-as-abs, starved-behind, starved-twice}
+use Rattle.hol_conv.proofs.Arms.{first-on, first-off, link-on, link-off, link-stop, link-costs, link-equations, changed-arm, changed-makes, as-conv, sub-as-abs, starved-behind}
 use Rattle.hol_conv.proofs.Arms.{top-refused, top-tried, top-ends, top-on, top-below}
 use Rattle.hol_conv.proofs.converting.Level.«+converted».Goals as goal
 
@@ -434,80 +434,69 @@ top_depth_conv-right_of-right-requires g t c =
       equation = equation-later c.args.t.now c.in_ok-begun.begun begun.continued (is-equation _ _ _ c.in_ok-begun.ensures.converts);
     }
 
-pub top_depth_conv-sub_conv-under-requires : goal.top_depth_conv-sub_conv-under-requires
-top_depth_conv-sub_conv-under-requires g t c =
+pub top_depth_conv-top_depth_rest-rest-requires : goal.top_depth_conv-top_depth_rest-rest-requires
+top_depth_conv-top_depth_rest-rest-requires g t c =
     let begun = c.in_ok-begun.ensures.makes in
     let asked = asks-now c.right_of-right.result.now (g.met.L.Leaves.stays_ready c.args.self.now.leaves.now) c.requires.asked begun.continued begun.library c.right_of-right.ensures.known in
     search rules
 
 pub top_depth_conv-then-requires : goal.top_depth_conv-then-requires
 top_depth_conv-then-requires g t c =
-    let last = top-tried c.or_same-last.result (ap (with_leaves (g.L.Leaves.means c.args.self.now.leaves.now)) c.requires.whole) c.sub_conv-under.ensures.converts
-    c.sub_conv-under.ensures.makes (c.in-Err.ensures.changed _) c.or_same-last.ensures.tries in
     let begun = c.in_ok-begun.ensures.makes in
-    let under = c.sub_conv-under.ensures.makes in
+    let rest = c.top_depth_rest-rest.ensures.makes in
     record {
-      library = under.library;
-      known = known-later c.args.t.now (continued-twice begun.continued under.continued) c.requires.asked.known;
-      right = known-later c.right_of-right.result.now under.continued c.right_of-right.ensures.known;
-      side = side-later c.args.t.now c.in_ok-begun.begun under.continued c.right_of-right.ensures.right;
-      first = still-answers c.args.t.now c.in_ok-begun.begun under.continued begun.made;
-      next = c.or_same-last.ensures.makes.made;
-      equation = link-equations c.or_same-last.result under.continued last;
+      library = rest.library;
+      known = known-later c.args.t.now (continued-twice begun.continued rest.continued) c.requires.asked.known;
+      right = known-later c.right_of-right.result.now rest.continued c.right_of-right.ensures.known;
+      side = side-later c.args.t.now c.in_ok-begun.begun rest.continued c.right_of-right.ensures.right;
+      first = still-answers c.args.t.now c.in_ok-begun.begun rest.continued begun.made;
+      next = rest.made;
+      equation = link-equations c.top_depth_rest-rest.result rest.continued c.top_depth_rest-rest.ensures.converts;
     }
-
-pub top_depth_conv-returns-in-Err-clause-converts : goal.top_depth_conv-returns-in-Err-clause-converts
-top_depth_conv-returns-in-Err-clause-converts g t c =
-    let last = top-tried c.or_same-last.result (ap (with_leaves (g.L.Leaves.means c.args.self.now.leaves.now)) c.requires.whole) c.sub_conv-under.ensures.converts
-    c.sub_conv-under.ensures.makes (c.in-Err.ensures.changed _) c.or_same-last.ensures.tries in
-    top-ends c.or_same-last.result c.then.result (ap (with_leaves (g.L.Leaves.means c.args.self.now.leaves.now)) c.requires.whole) c.in_ok-begun.ensures.converts c.in_ok-begun.ensures.makes
-    c.right_of-right.ensures.right last c.sub_conv-under.ensures.makes.continued c.then.ensures.joins
-
-pub top_depth_conv-begin_twice-requires : goal.top_depth_conv-begin_twice-requires
-top_depth_conv-begin_twice-requires g t c =
-    let begun = c.in_ok-begun.ensures.makes in
-    let under = c.sub_conv-under.ensures.makes in
-    let below = changed-arm c.sub_conv-under.result (Ok c.in-Ok.found) c.sub_conv-under.ensures.converts (c.in-Ok.ensures.changed _) in
-    let found = changed-makes c.sub_conv-under.result (Ok c.in-Ok.found) under c.in-Ok.ensures.same in
-    record {
-      library = under.library;
-      known = known-later c.args.t.now (continued-twice begun.continued under.continued) c.requires.asked.known;
-      first = still-answers c.args.t.now c.in_ok-begun.begun under.continued begun.made;
-      equation = link-equations (Ok c.in_ok-begun.begun) (continued-twice begun.continued under.continued) c.in_ok-begun.ensures.converts;
-      second = on-side-answers c.args.t.now c.in_ok-begun.begun c.in-Ok.found under.continued c.right_of-right.ensures.right found.made;
-      next = on-side-equation c.args.t.now c.in_ok-begun.begun c.in-Ok.found under.continued c.right_of-right.ensures.right
-          (link-equations (Ok c.in-Ok.found) under.continued below);
-    }
-
-pub top_depth_conv-returns-in_err-chain-clause-converts : goal.top_depth_conv-returns-in_err-chain-clause-converts
-top_depth_conv-returns-in_err-chain-clause-converts g t c =
-    let p = err_from_is_err_and c.from_residual-in_err-chain.result c.from_residual-in_err-chain.ensures.1 in
-    rw (p.1, p.2)
-    (starved-twice (Ok c.in_ok-begun.begun) c.sub_conv-under.result c.in_ok-begun.ensures.makes.continued
-    c.in_ok-begun.ensures.converts c.sub_conv-under.ensures.converts c.in_err-chain.ensures.err)
-
-pub top_depth_conv-top_depth_on-requires : goal.top_depth_conv-top_depth_on-requires
-top_depth_conv-top_depth_on-requires g t c =
-    let before = continued-twice c.in_ok-begun.ensures.makes.continued c.sub_conv-under.ensures.makes.continued in
-    let twice = c.in_ok-chain.ensures in
-    let asked = asks-later (g.met.L.Leaves.stays_ready c.args.self.now.leaves.now) c.requires.asked (continued-twice before twice.continued) twice.library in
-    let chain = twice.chain in
-    search rules
 
 pub top_depth_conv-returns-clause-converts : goal.top_depth_conv-returns-clause-converts
 top_depth_conv-returns-clause-converts g t c =
-    let begun = c.in_ok-begun.ensures.makes in
-    let under = c.sub_conv-under.ensures.makes in
-    let side = side-later c.args.t.now c.in_ok-begun.begun under.continued c.right_of-right.ensures.right in
-    let twice = c.in_ok-chain.ensures in
-    let so_far = top-on c.sub_conv-under.result c.in-Ok.found c.in_ok-chain.chain (ap (with_leaves (g.L.Leaves.means c.args.self.now.leaves.now)) c.requires.whole) c.in_ok-begun.ensures.converts begun
-    c.right_of-right.ensures.right c.sub_conv-under.ensures.converts (c.in-Ok.ensures.changed _) under.continued (twice.extends _ side) in
-    (carried-behind c.in_ok-chain.chain c.top_depth_on.result (continued-twice (continued-twice begun.continued under.continued) twice.continued) so_far c.top_depth_on.ensures.converts).0
+    top-ends c.top_depth_rest-rest.result c.then.result (ap (with_leaves (g.L.Leaves.means c.args.self.now.leaves.now)) c.requires.whole) c.in_ok-begun.ensures.converts c.in_ok-begun.ensures.makes
+    c.right_of-right.ensures.right c.top_depth_rest-rest.ensures.converts c.top_depth_rest-rest.ensures.makes.continued c.then.ensures.joins
 
-pub top_depth_conv-returns-clause-makes : goal.top_depth_conv-returns-clause-makes
-top_depth_conv-returns-clause-makes g t c =
-    let before = continued-twice c.in_ok-begun.ensures.makes.continued c.sub_conv-under.ensures.makes.continued in
-    answers-after (continued-twice before c.in_ok-chain.ensures.continued) c.top_depth_on.ensures.makes
+pub top_depth_rest-returns-in-Err-clause-converts : goal.top_depth_rest-returns-in-Err-clause-converts
+top_depth_rest-returns-in-Err-clause-converts g t c =
+    top-tried c.or_same.result (ap (with_leaves (g.L.Leaves.means c.args.self.now.leaves.now)) c.requires.whole) c.sub_conv-under.ensures.converts
+    c.sub_conv-under.ensures.makes (c.in-Err.ensures.changed _) c.or_same.ensures.tries
+
+pub top_depth_rest-begin_by-requires-clause-answer : goal.top_depth_rest-begin_by-requires-clause-answer
+top_depth_rest-begin_by-requires-clause-answer g t c =
+    (changed-makes c.sub_conv-under.result (Ok c.in-Ok.found) c.sub_conv-under.ensures.makes c.in-Ok.ensures.same).made
+
+pub top_depth_rest-begin_by-requires-clause-equation : goal.top_depth_rest-begin_by-requires-clause-equation
+top_depth_rest-begin_by-requires-clause-equation g t c =
+    let below = changed-arm c.sub_conv-under.result (Ok c.in-Ok.found) c.sub_conv-under.ensures.converts (c.in-Ok.ensures.changed _) in
+    link-equations (Ok c.in-Ok.found) c.sub_conv-under.ensures.makes.continued below
+
+pub top_depth_rest-returns-in_err-chain-clause-converts : goal.top_depth_rest-returns-in_err-chain-clause-converts
+top_depth_rest-returns-in_err-chain-clause-converts g t c =
+    let p = err_from_is_err_and c.from_residual.result c.from_residual.ensures.1 in
+    rw (p.1, p.2)
+    (starved-behind c.args.library.now c.sub_conv-under.result c.sub_conv-under.ensures.converts c.in_err-chain.ensures.err)
+
+pub top_depth_rest-top_depth_on-requires : goal.top_depth_rest-top_depth_on-requires
+top_depth_rest-top_depth_on-requires g t c =
+    let begun = c.in_ok-chain.ensures in
+    let asked = asks-later (g.met.L.Leaves.stays_ready c.args.self.now.leaves.now) c.requires.asked (continued-twice c.sub_conv-under.ensures.makes.continued begun.continued) begun.library in
+    let chain = begun.chain in
+    search rules
+
+pub top_depth_rest-returns-clause-converts : goal.top_depth_rest-returns-clause-converts
+top_depth_rest-returns-clause-converts g t c =
+    let under = c.sub_conv-under.ensures.makes in
+    let begun = c.in_ok-chain.ensures in
+    let so_far = top-on c.sub_conv-under.result c.in-Ok.found c.in_ok-chain.chain (ap (with_leaves (g.L.Leaves.means c.args.self.now.leaves.now)) c.requires.whole)
+    c.sub_conv-under.ensures.converts (c.in-Ok.ensures.changed _) under.continued begun.extends in
+    (carried-behind c.in_ok-chain.chain c.top_depth_on.result (continued-twice under.continued begun.continued) so_far c.top_depth_on.ensures.converts).0
+
+pub top_depth_rest-returns-clause-makes : goal.top_depth_rest-returns-clause-makes
+top_depth_rest-returns-clause-makes g t c =
+    answers-after (continued-twice c.sub_conv-under.ensures.makes.continued c.in_ok-chain.ensures.continued) c.top_depth_on.ensures.makes
 
 pub top_depth_on-loop-chain-init : goal.top_depth_on-loop-chain-init
 top_depth_on-loop-chain-init g t c =
