@@ -227,15 +227,6 @@ pub last-made : {library : Library} {all : List Recorded} (front : List Recorded
     → All (IsMade library.recorder) front × IsMade library.recorder last
 last-made {library} {all} front last made is = All-pop (IsMade library.recorder) all front (Some last) is made
 
--- behind it that adds nothing
-pub joins-last : (theory : Theory) (all front : List Recorded) (last : Recorded) (same : Theorem) {answer : Result Theorem Fault} → all ≡ front ++ last ∷ [] → trans_outcome theory last.theorem same ≡ Ok last.theorem
-    → Joins (joined_from theory (theorems front) (Ok last.theorem)) answer → Joins (joined_from theory (theorems all) (Ok same)) answer
-joins-last theory all front last same there nothing joins =
-    joins-as (front_is ∙ ap (joined_from theory (theorems front)) nothing) joins
-  where
-    front_is : joined_from theory (theorems all) (Ok same) ≡ joined_from theory (theorems front) (trans_outcome theory last.theorem same)
-    front_is = split theory all front last (Ok same) there
-
 same-fault : {a b : Fault} → ◌≡◌ {A = Result Theorem Fault} (Err a) (Err b) → a ≡ b
 same-fault is = cc
 

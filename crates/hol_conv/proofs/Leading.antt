@@ -13,6 +13,7 @@ use Rattle.hol_laws_refiners.proofs.Equations.{equation-sides}
 use Rattle.hol_journal.specs.Journal.{Recorded}
 use Rattle.hol_journal.proofs.Showing.{refused-is, concluded-is}
 use Rattle.hol_conv.specs.Makes.{Joins, Meets, IsRightSide}
+use Rattle.hol_conv.specs.Converted.{same_theorem}
 use Rattle.hol_conv.specs.Chains.{Equates, LeadTo, lead_nowhere, lead_on, LeadUpTo, Reflects, without_step, by_refl}
 use Rattle.hol_conv.proofs.Answering.{some-sides}
 
@@ -123,12 +124,6 @@ last-meets front made up is =
       middle = up.equates.left_is ∙ sym before.equates.right_is;
     }
 
--- those before it lead up to it
-pub front-leads-up : {all : List Recorded} {end : Nameless} (front : List Recorded) (made : Recorded) → LeadTo all end → all ≡ front ++ made ∷ [] → LeadUpTo front made.theorem
-front-leads-up {all} {end} front made lead is =
-    let before = last-leads front made lead is in
-    record { left = before.middle; right = end; equates = before.equates; lead = before.lead }
-
 -- and those before it lead to what it is joined to
 pub front-leads : (theory : Theory) {all : List Recorded} {last joined : Theorem} (front : List Recorded) (made : Recorded) → LeadUpTo all last → all ≡ front ++ made ∷ []
     → Joins (trans_outcome theory made.theorem last) (Ok joined) → LeadUpTo front joined
@@ -136,6 +131,15 @@ front-leads theory {all} {last} {joined} front made up is (inl made_is) =
     let before = last-leads front made up.lead is in
     record { left = before.middle; right = up.right; equates = trans-equates theory made.theorem last joined before.equates up.equates (sym made_is); lead = before.lead }
 front-leads theory front made up is (inr made_is) = no-theorem (sym made_is)
+
+-- ---- that the term to which they lead equals itself
+pub leads-up-same : (theory : Theory) {all : List Recorded} (t : NamedTerm) → LeadTo all (image t) → LeadUpTo all (same_theorem theory t)
+leads-up-same theory t lead = record {
+  left = image t;
+  right = image t;
+  equates = record { sides = (t, t); is = equation-sides t t; left_is = refl; right_is = refl };
+  lead = lead;
+}
 
 -- ---- one more theorem
 

@@ -75,6 +75,11 @@ copied-makes {library} (Ok copy) made is there same = record {
 }
 copied-makes {library} (Err fault) made is there same = makes_nothing library fault is
 
+pub copied-as : {outcome : Result Theorem Fault} (made : Recorded) (result : Result Recorded Fault) → outcome ≡ Ok made.theorem → IfOk result (λ copy. copy ≡ made)
+    → IfErr result (λ fault. fault ≡ Memory) → Joins outcome (theorem_in result)
+copied-as made (Ok copy) is same none = inl (ap (λ (made : Recorded). Ok made.theorem) same ∙ sym is)
+copied-as made (Err fault) is same none = inr (ap Err none)
+
 pub copied-stands : {theory : Theory} (result : Result Recorded Fault) (made : Recorded) → StandsOn theory made → IfOk result (λ copy. copy ≡ made) → IfOk result (StandsOn theory)
 copied-stands (Ok copy) made is same = ap (λ (m : Recorded). m.theorem.theory) same ∙ is
 copied-stands (Err fault) made is same = tt
@@ -110,15 +115,6 @@ nothing-added theory legal first right formula well stands side =
     let fits = first_of_both (is_within_limits first.conclusion) (list_all is_within_limits first.hypotheses) well.within_limits in
     trans-adds-nothing theory first side.left right side.is whole fits stands
 
-pub copied-joins : (theory : Theory) (first : Recorded) (right : NamedTerm) (result : Result Recorded Fault) → is_known theory right ≡ true → is_within_limits (equation right right) ≡ true
-    → trans_outcome theory first.theorem (same_theorem theory right) ≡ Ok first.theorem → IfOk result (λ copy. copy ≡ first) → IfErr result (λ fault. fault ≡ Memory)
-    → Joins (to_refl theory first.theorem right) (theorem_in result)
-copied-joins theory first right (Ok copy) known roomy nothing same none =
-    let refl_is : to_refl theory first.theorem right ≡ trans_outcome theory first.theorem (same_theorem theory right) =
-        ap (λ (found : Result Theorem Fault). found >>= λ same. trans_outcome theory first.theorem same) (roomy-refl theory right known roomy) in
-    inl (ap (λ (made : Recorded). Ok made.theorem) same ∙ sym (refl_is ∙ nothing))
-copied-joins theory first right (Err fault) known roomy nothing same none = inr (ap Err none)
-
 -- ---- TRANS of what REFL proves of a term in which nothing is bound, and a theorem of it
 
 trans-adds-nothing-before : (theory : Theory) (t left right : NamedTerm) (next : Theorem) → dest_equation next.conclusion ≡ Some (left, right) → next.conclusion ≡ equation left right → left ≡ t
@@ -153,11 +149,16 @@ nothing-added-before theory legal t next formula well stands unbound of =
     let fits = first_of_both (is_within_limits next.conclusion) (list_all is_within_limits next.hypotheses) well.within_limits in
     trans-adds-nothing-before theory t of.sides.0 of.sides.1 next of.is_equation whole (exact of.sides.0 t unbound of.same_left) fits stands well.is_theorem.ordered
 
-pub copied-joins-before : (theory : Theory) (t : NamedTerm) (next : Recorded) (result : Result Recorded Fault) → is_known theory t ≡ true → is_within_limits (equation t t) ≡ true
-    → trans_outcome theory (same_theorem theory t) next.theorem ≡ Ok next.theorem → IfOk result (λ copy. copy ≡ next) → IfErr result (λ fault. fault ≡ Memory)
-    → Joins (from_refl theory t next.theorem) (theorem_in result)
-copied-joins-before theory t next (Ok copy) known roomy nothing same none =
-    let refl_is : from_refl theory t next.theorem ≡ trans_outcome theory (same_theorem theory t) next.theorem =
-        ap (λ (found : Result Theorem Fault). found >>= λ same. trans_outcome theory same next.theorem) (roomy-refl theory t known roomy) in
-    inl (ap (λ (made : Recorded). Ok made.theorem) same ∙ sym (refl_is ∙ nothing))
-copied-joins-before theory t next (Err fault) known roomy nothing same none = inr (ap Err none)
+-- ---- with REFL
+
+pub to-refl-joins : (theory : Theory) (first : Theorem) (right : NamedTerm) {answer : Result Theorem Fault} → is_known theory right ≡ true → is_within_limits (equation right right) ≡ true
+    → Joins (trans_outcome theory first (same_theorem theory right)) answer → Joins (to_refl theory first right) answer
+to-refl-joins theory first right {answer} known roomy joins =
+    subst (λ (outcome : Result Theorem Fault). Joins outcome answer)
+    (sym (ap (λ (found : Result Theorem Fault). found >>= λ same. trans_outcome theory first same) (roomy-refl theory right known roomy))) joins
+
+pub from-refl-joins : (theory : Theory) (t : NamedTerm) (next : Theorem) {answer : Result Theorem Fault} → is_known theory t ≡ true → is_within_limits (equation t t) ≡ true
+    → Joins (trans_outcome theory (same_theorem theory t) next) answer → Joins (from_refl theory t next) answer
+from-refl-joins theory t next {answer} known roomy joins =
+    subst (λ (outcome : Result Theorem Fault). Joins outcome answer)
+    (sym (ap (λ (found : Result Theorem Fault). found >>= λ same. trans_outcome theory same next) (roomy-refl theory t known roomy))) joins

@@ -18,7 +18,7 @@ ghost use Rattle.hol_conv.specs.Chains as chains;
 ghost use Rattle.hol_conv.specs.Chains.{proved_by, LeadUpTo, IsChain, BeginsAt, IsChainFrom, Settles, Reflects, Finishes, Tries, IsExtended, Links, LinksMade};
 
 use crate::converted::{Answer, Converted, as_answer, only_changed, theorem, unchanged};
-use crate::joins::{adds_nothing, refl_known, right_side, trans_known};
+use crate::joins::{itself, refl_known, right_side, trans_known};
 use hol_journal::Rec;
 use hol_model::Fault;
 use hol_tactic_exprs::{Fuel, is_caught};
@@ -94,14 +94,10 @@ fn ended(library: &mut Library, chain: Chain) -> Result<Rec, Fault>
     ensures stands { IfOk result (StandsOn library.old.recorder.theory) }
     ensures makes { Makes library.old library.new result }
 {
-    let Chain {
-        mut theorems,
-        current,
-        ..
-    } = chain;
+    let Chain { mut theorems, .. } = chain;
     match theorems.pop() {
-        Some(last) => {
-            adds_nothing(library, &last, &current);
+        Some(theorem) => {
+            let last = itself(library, &theorem)?;
             joined(library, theorems, last)
         }
         None => unreachable!(),

@@ -15,8 +15,7 @@ ghost use Rattle.hol_conv.specs.Makes.{Makes, StandsOn, StandsIf, Joins, IsRight
 ghost use Rattle.hol_conv.specs.Converted.{same_theorem, theorem_of, answered, changed_by, IsMadeFor, IsExact, IsAnswerOf, IsHeldIn, MakesAnswer, from_refl, to_refl};
 
 use crate::joins::{
-    abs, adds_nothing, adds_nothing_before, ap_term, ap_thm, copied, if_changed, mk_comb, refl_known, right_side,
-    trans_known,
+    abs, ap_term, ap_thm, if_changed, itself, mk_comb, refl_known, right_side, trans_known,
 };
 use crate::parts::Halves;
 use hol_journal::Rec;
@@ -191,8 +190,7 @@ fn from_same(
     ensures joins { Joins (from_refl library.old.recorder.theory t.now next.now.theorem) (theorem_in result) }
 {
     if is_exact(t, stands_here) {
-        adds_nothing_before(library, t, next);
-        return copied(library, next);
+        return itself(library, next);
     }
     let same = refl_known(library, t)?;
     trans_known(library, &same, next)
@@ -215,8 +213,7 @@ fn to_same(
     ensures joins { Joins (to_refl library.old.recorder.theory first.now.theorem right.now) (theorem_in result) }
 {
     if stands_here {
-        adds_nothing(library, first, right);
-        return copied(library, first);
+        return itself(library, first);
     }
     let same = refl_known(library, right)?;
     trans_known(library, first, &same)

@@ -1,7 +1,7 @@
 // The rules by which theorems of conversions are joined.
-ghost use Rattle.std.specs.Prelude.{◌≡◌, ℕ, List, true, false, Ok, IfOk, IfErr, IsSome};
+ghost use Rattle.std.specs.Prelude.{◌≡◌, ℕ, List, true, false, Ok, IfOk, IsSome};
 ghost use Rattle.hol_model.specs.Terms.HolType.{HolType};
-ghost use Rattle.hol_model.specs.Terms.NamedTerm.{variable};
+ghost use Rattle.hol_model.specs.Terms.NamedTerm.{NamedTerm, variable};
 ghost use Rattle.hol_model.specs.Logic.KnownTerm.{is_known};
 ghost use Rattle.hol_model.specs.Kernel.Rules.{dest_equation, refl_outcome, trans_outcome};
 ghost use Rattle.hol_model.specs.Refining.Conversions.{binder_fault, of_argument, of_function, of_parts, of_body};
@@ -10,7 +10,6 @@ ghost use Rattle.hol_terms.specs.Binders.{has_abstractions};
 ghost use Rattle.hol_laws_refiners.specs.Laws.{IsEquationOf};
 ghost use Rattle.hol_journal.specs.Journal.{Journal, IsMade, theorem_in};
 ghost use Rattle.hol_theorem_library.specs.Library.{IsLibrary};
-ghost use Rattle.hol_model.specs.declared.fault.Fault.TheVariants.{Memory};
 ghost use Rattle.hol_conv.specs.Makes.{Makes, StandsOn, Joins, Meets, IsRightSide};
 ghost use Rattle.hol_conv.specs.Converted.{same_theorem};
 
@@ -51,39 +50,21 @@ pub fn trans_known(library: &mut Library, first: &Rec, second: &Rec) -> Result<R
         .infer_known(Inference::Trans(first, second))
 }
 
-/// TRANS of a theorem that stands on the library's theory, and of what REFL proves of its right side, is that theorem. Nothing is
-/// computed here: the clause is a law, for callers' proofs.
-pub fn adds_nothing(library: &Library, first: &Rec, right: &Term)
-    requires first { IsMade library.now.recorder first.now }
-    requires stands { StandsOn library.now.recorder.theory first.now }
-    requires side { IsRightSide first.now.theorem right.now }
-    ensures { trans_outcome library.now.recorder.theory first.now.theorem (same_theorem library.now.recorder.theory right.now) ≡ Ok first.now.theorem }
+/// A theorem that stands on the library's theory, as what TRANS makes of it and of what REFL proves of its right side, and of what REFL
+/// proves of its left side, where nothing is bound there, and of it. Refused: Memory.
+pub fn itself(library: &Library, made: &Rec) -> Result<Rec, Fault>
+    requires library { IsLibrary library.now }
+    requires made { IsMade library.now.recorder made.now }
+    requires stands { StandsOn library.now.recorder.theory made.now }
+    ensures makes { Makes library.now library.now result }
+    ensures stands { IfOk result (StandsOn library.now.recorder.theory) }
+    ensures in_front { (right : NamedTerm) → IsRightSide made.now.theorem right
+        → Joins (trans_outcome library.now.recorder.theory made.now.theorem (same_theorem library.now.recorder.theory right)) (theorem_in result) }
+    ensures behind { (t : NamedTerm) → has_abstractions t ≡ false → IsEquationOf t made.now.theorem
+        → Joins (trans_outcome library.now.recorder.theory (same_theorem library.now.recorder.theory t) made.now.theorem) (theorem_in result) }
 {
-    let _conclusion = conclusion_of(&library.recorder, first);
-    library.recorder.thm(first).well_formed();
-}
-
-/// TRANS of what REFL proves of a term in which nothing is bound, and of a theorem of it that stands on the library's theory, is that
-/// theorem. Nothing is computed here: the clause is a law, for callers' proofs.
-pub fn adds_nothing_before(library: &Library, t: &Term, next: &Rec)
-    requires next { IsMade library.now.recorder next.now }
-    requires stands { StandsOn library.now.recorder.theory next.now }
-    requires unbound { has_abstractions t.now ≡ false }
-    requires equation { IsEquationOf t.now next.now.theorem }
-    ensures { trans_outcome library.now.recorder.theory (same_theorem library.now.recorder.theory t.now) next.now.theorem ≡ Ok next.now.theorem }
-{
-    let _conclusion = conclusion_of(&library.recorder, next);
-    library.recorder.thm(next).well_formed();
-}
-
-/// The same theorem.
-pub fn copied(library: &mut Library, made: &Rec) -> Result<Rec, Fault>
-    requires library { IsLibrary library.old }
-    requires made { IsMade library.old.recorder made.now }
-    ensures makes { Makes library.old library.new result }
-    ensures ok { IfOk result (λ copy. copy ≡ made.now) }
-    ensures err { IfErr result (λ fault. fault ≡ Memory) }
-{
+    let _conclusion = conclusion_of(&library.recorder, made);
+    library.recorder.thm(made).well_formed();
     made.copy(library.recorder.alloc())
 }
 
