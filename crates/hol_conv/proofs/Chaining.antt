@@ -20,7 +20,7 @@ use Rattle.hol_theorem_library.specs.Library.{IsContinued}
 use Rattle.hol_theorem_library.specs.declared.library.Library.{Library}
 use Rattle.hol_conv.specs.Makes.{StandsOn, Joins, IsRightSide}
 use Rattle.hol_conv.specs.declared.converted.Converted.{Converted}
-use Rattle.hol_conv.specs.declared.converted.Converted.TheVariants.{Same, Changed}
+use Rattle.hol_conv.specs.declared.converted.Converted.TheVariants.{Changed}
 use Rattle.hol_conv.specs.Converted.{same_theorem, theorem_of, answered, changed_by, IsMadeFor, IsAnswerOf}
 use Rattle.hol_conv.proofs.Same.{roomy-refl, roomless-refl, same-joined, same-side}
 use Rattle.hol_conv.specs.Chains.{Equates, LeadTo, lead_nowhere, theorems, proved_by, Reflects, without_step, by_refl, Finishes, FinishesBy, IsExtended, EndsHere, IsChain, IsChainFrom, BeginsAt, Settles}
@@ -223,9 +223,9 @@ ends-by {library} {all} {current} front last ends is =
     let same = (same-last ends.front front ends.last last (sym ends.there ∙ is)).1 in
     (subst (λ (made : Recorded). StandsOn library.recorder.theory made) same ends.stands, subst (λ (made : Recorded). IsRightSide made.theorem current) same ends.right)
 
-pub last-made : {library : Library} {all : List Recorded} (front : List Recorded) (last : Recorded) → All (IsMade library.recorder) all → all ≡ front ++ last ∷ []
+pub last-made : (library : Library) {all : List Recorded} (front : List Recorded) (last : Recorded) → All (IsMade library.recorder) all → all ≡ front ++ last ∷ []
     → All (IsMade library.recorder) front × IsMade library.recorder last
-last-made {library} {all} front last made is = All-pop (IsMade library.recorder) all front (Some last) is made
+last-made library {all} front last made is = All-pop (IsMade library.recorder) all front (Some last) is made
 
 same-fault : {a b : Fault} → ◌≡◌ {A = Result Theorem Fault} (Err a) (Err b) → a ≡ b
 same-fault is = cc

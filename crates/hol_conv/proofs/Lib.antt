@@ -1,6 +1,5 @@
 pub mod Making
 pub mod Standing
-pub mod Joining
 pub mod RightSides
 pub mod OneSteps
 pub mod StoredRules

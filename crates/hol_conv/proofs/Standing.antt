@@ -42,11 +42,11 @@ stands-later (Err fault) continued is = tt
 not-said : {A : Type 0} → false ≡ true → A
 not-said is = cc
 
-pub said-not : {theory : Theory} (result : Result Recorded Fault) → StandsIf false theory result
-said-not result said = not-said said
+pub said-not : (theory : Theory) (result : Result Recorded Fault) → StandsIf false theory result
+said-not theory result said = not-said said
 
-pub said-so : {theory : Theory} (result : Result Recorded Fault) → IfOk result (StandsOn theory) → StandsIf true theory result
-said-so result is said = is
+pub said-so : (theory : Theory) (result : Result Recorded Fault) → IfOk result (StandsOn theory) → StandsIf true theory result
+said-so theory result is said = is
 
 -- as an answer
 pub made-for : {old new : Library} (stands : Bool) (result : Result Recorded Fault) (t : NamedTerm) → Makes old new result → StandsIf stands old.recorder.theory result

@@ -132,7 +132,9 @@ pub(crate) fn finish(
         };
     }
     let Chain {
-        theorems, current, ..
+        theorems,
+        current,
+        ..
     } = chain;
     match theorem(library, &current, last) {
         Ok(last) => as_answer(joined(library, theorems, last), false),
@@ -201,12 +203,7 @@ fn settled(library: &mut Library, chain: Chain) -> Result<Chain, Fault>
 }
 
 // Puts an equation of the current term behind theorems that are made.
-fn pushed(
-    library: &Library,
-    chain: Chain,
-    made: Rec,
-    stands_here: bool,
-) -> Result<Chain, Fault>
+fn pushed(library: &Library, chain: Chain, made: Rec, stands_here: bool) -> Result<Chain, Fault>
     requires chain { IsChain library.now chain }
     requires settled { chain.is_same ≡ false }
     requires made { IsMadeFor library.now stands_here made }

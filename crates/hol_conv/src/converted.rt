@@ -174,12 +174,7 @@ fn is_exact(t: &Term, stands_here: bool) -> bool
 }
 
 // TRANS of what REFL proves and a theorem: the theorem itself where it stands on the library's theory, and nothing is bound in the term.
-fn from_same(
-    library: &mut Library,
-    t: &Term,
-    next: &Rec,
-    stands_here: bool,
-) -> Result<Rec, Fault>
+fn from_same(library: &mut Library, t: &Term, next: &Rec, stands_here: bool) -> Result<Rec, Fault>
     requires library { IsLibrary library.old }
     requires known { is_known library.old.recorder.theory t.now ≡ true }
     requires roomy { is_within_limits (equation t.now t.now) ≡ true }

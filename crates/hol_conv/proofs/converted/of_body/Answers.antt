@@ -19,4 +19,4 @@ returns-in-Ok-Same-clause-makes c = record {
 }
 
 pub returns-in-Ok-Changed-clause-makes : goal.returns-in-Ok-Changed-clause-makes
-returns-in-Ok-Changed-clause-makes c = c.as_answer.ensures.made c.args.library.now c.abs.new.library c.args.t.now c.abs.ensures.makes (said-so c.abs.result c.abs.ensures.stands)
+returns-in-Ok-Changed-clause-makes c = c.as_answer.ensures.made c.args.library.now c.abs.new.library c.args.t.now c.abs.ensures.makes (said-so _ c.abs.result c.abs.ensures.stands)

@@ -12,13 +12,13 @@ returns-clause-stands c = copied-stands c.copy.result c.args.made.now c.requires
 pub returns-clause-in_front : goal.returns-clause-in_front
 returns-clause-in_front c right side =
     let known = c.conclusion_of-conclusion.ensures in
-    let well = subst (λ (theorem : Theorem). IsWellFormed theorem) c.thm.ensures c.well_formed.ensures in
+    let well = subst (λ (theorem : Theorem). IsWellFormed theorem) c.thm.ensures c.well_formed-2.ensures in
     copied-as c.args.made.now c.copy.result
     (nothing-added c.args.library.now.recorder.theory known.legal c.args.made.now.theorem right known.formula well c.requires.stands side) c.copy.ensures.ok c.copy.ensures.err
 
 pub returns-clause-behind : goal.returns-clause-behind
 returns-clause-behind c t unbound of =
     let known = c.conclusion_of-conclusion.ensures in
-    let well = subst (λ (theorem : Theorem). IsWellFormed theorem) c.thm.ensures c.well_formed.ensures in
+    let well = subst (λ (theorem : Theorem). IsWellFormed theorem) c.thm.ensures c.well_formed-2.ensures in
     copied-as c.args.made.now c.copy.result
     (nothing-added-before c.args.library.now.recorder.theory known.legal t c.args.made.now.theorem known.formula well c.requires.stands unbound of) c.copy.ensures.ok c.copy.ensures.err
