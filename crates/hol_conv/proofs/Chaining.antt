@@ -23,7 +23,8 @@ use Rattle.hol_conv.specs.declared.converted.Converted.{Converted}
 use Rattle.hol_conv.specs.declared.converted.Converted.TheVariants.{Changed}
 use Rattle.hol_conv.specs.Converted.{same_theorem, theorem_of, answered, changed_by, IsMadeFor, IsAnswerOf}
 use Rattle.hol_conv.proofs.Same.{roomy-refl, roomless-refl, same-joined, same-side}
-use Rattle.hol_conv.specs.Chains.{Equates, LeadTo, lead_nowhere, theorems, proved_by, Reflects, without_step, by_refl, Finishes, FinishesBy, IsExtended, EndsHere, IsChain, IsChainFrom, BeginsAt, Settles}
+use Rattle.hol_conv.specs.Chains.{Equates, LeadTo, lead_nowhere, theorems, proved_by, Reflects, without_step, by_refl}
+use Rattle.hol_conv.specs.Chains.{Finishes, FinishesBy, IsExtended, EndsHere, IsChain, IsChainFrom, BeginsAt, Settles}
 use Rattle.hol_conv.specs.declared.chain.Chain.{Chain}
 use Rattle.hol_conv.proofs.Standing.{made-for-later}
 use Rattle.hol_conv.proofs.Meeting.{refl-made}

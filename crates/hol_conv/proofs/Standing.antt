@@ -120,7 +120,8 @@ nothing-added theory legal first right formula well stands side =
 trans-adds-nothing-before : (theory : Theory) (t left right : NamedTerm) (next : Theorem) → dest_equation next.conclusion ≡ Some (left, right) → next.conclusion ≡ equation left right → left ≡ t
     → is_within_limits next.conclusion ≡ true → next.theory ≡ theory → AreOrdered next.hypotheses → trans_outcome theory (same_theorem theory t) next ≡ Ok next
 trans-adds-nothing-before theory t left right next is whole left_is fits stands ordered =
-    subst (λ (found : Option (NamedTerm × NamedTerm)). given found NotEquation (λ one. given (dest_equation next.conclusion) NotEquation (λ other. joined one other)) ≡ Ok next) (sym (equation-sides t t))
+    subst (λ (found : Option (NamedTerm × NamedTerm)). given found NotEquation (λ one. given (dest_equation next.conclusion) NotEquation (λ other. joined one other)) ≡ Ok next)
+    (sym (equation-sides t t))
     (subst (λ (found : Option (NamedTerm × NamedTerm)). given found NotEquation (λ other. joined (t, t) other) ≡ Ok next) (sym is)
     (go (are_alpha_equivalent t left) (is_within_limits (equation t right)) ((same_term-Decides (image t) (image left)).1 (ap image (sym left_is)))
     (subst (λ (c : NamedTerm). is_within_limits c ≡ true) whole_is fits)))

@@ -34,7 +34,8 @@ returns-in-Ok-theorem-clause-finishes c =
     let caught : is_caught c.args.fault ≡ true = search rules in
     ends-joined c.args.chain c.args.fault (answered c.args.library.now.recorder.theory c.args.chain.current c.same-last.result) c.in-Ok-theorem.last.theorem caught c.requires.chain.held.known
     c.same-last.ensures.reflects c.in-Ok-theorem.ensures.joins
-    (joined-answer c.args.t.now c.args.chain.theorems.items c.in-Ok-theorem.last.theorem false c.joined.result c.as_answer-in-Ok-theorem.result c.in-Ok-theorem.ensures.makes.continued c.joined.ensures.joins c.as_answer-in-Ok-theorem.ensures.same)
+    (joined-answer c.args.t.now c.args.chain.theorems.items c.in-Ok-theorem.last.theorem false c.joined.result c.as_answer-in-Ok-theorem.result
+    c.in-Ok-theorem.ensures.makes.continued c.joined.ensures.joins c.as_answer-in-Ok-theorem.ensures.same)
 
 pub returns-in-Ok-theorem-clause-makes : goal.returns-in-Ok-theorem-clause-makes
 returns-in-Ok-theorem-clause-makes c =

@@ -15,7 +15,8 @@ returns-in-Ok-clause-chain c =
     let current : c.in_ok-current.current ≡ c.right_side.result.now = search rules in
     let side = subst (λ (right : NamedTerm). IsRightSide c.args.made.theorem right) (sym current) c.right_side.ensures.right in
     let known = subst (λ (right : NamedTerm). is_known theory right ≡ true) (sym current) c.right_side.ensures.known in
-    chain-pushed c.args.chain _ c.args.made c.requires.chain c.requires.made.is_made c.in-Ok.ensures.items (equates-on c.requires.equation side) known refl (λ said. (c.requires.made.stands said, side))
+    chain-pushed c.args.chain _ c.args.made c.requires.chain c.requires.made.is_made c.in-Ok.ensures.items (equates-on c.requires.equation side) known refl
+    (λ said. (c.requires.made.stands said, side))
 
 pub right_side-requires-clause-made : goal.right_side-requires-clause-made
 right_side-requires-clause-made c = c.requires.made.is_made

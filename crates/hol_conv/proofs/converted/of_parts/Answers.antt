@@ -14,7 +14,11 @@ pub returns-in-Same-clause-makes : goal.returns-in-Same-clause-makes
 returns-in-Same-clause-makes c = c.as_answer.ensures.made c.args.library.now c.ap_term.new.library c.args.t.now c.ap_term.ensures.makes (said-so _ c.ap_term.result c.ap_term.ensures.stands)
 
 pub returns-in-Same-second-2-clause-makes : goal.returns-in-Same-second-2-clause-makes
-returns-in-Same-second-2-clause-makes c = c.as_answer-in-Same-second-2.ensures.made c.args.library.now c.ap_thm.new.library c.args.t.now c.ap_thm.ensures.makes (said-so _ c.ap_thm.result c.ap_thm.ensures.stands)
+returns-in-Same-second-2-clause-makes c =
+    c.as_answer-in-Same-second-2.ensures.made c.args.library.now c.ap_thm.new.library c.args.t.now c.ap_thm.ensures.makes
+    (said-so _ c.ap_thm.result c.ap_thm.ensures.stands)
 
 pub returns-clause-makes : goal.returns-clause-makes
-returns-clause-makes c = c.as_answer-in-Changed-second-2.ensures.made c.args.library.now c.mk_comb.new.library c.args.t.now c.mk_comb.ensures.makes (said-so _ c.mk_comb.result c.mk_comb.ensures.stands)
+returns-clause-makes c =
+    c.as_answer-in-Changed-second-2.ensures.made c.args.library.now c.mk_comb.new.library c.args.t.now c.mk_comb.ensures.makes
+    (said-so _ c.mk_comb.result c.mk_comb.ensures.stands)

@@ -14,13 +14,19 @@ returns-in-Same-next-clause-joins c =
     then-unchanged c.args.library.now.recorder.theory c.args.t.now c.args.right.now c.args.first.now c.args.next c.in-Same.is (c.in_ok-next.was ∙ ap Ok c.in-Same-next.is) c.requires.side fits
 
 pub returns-in-Changed-next-clause-makes : goal.returns-in-Changed-next-clause-makes
-returns-in-Changed-next-clause-makes c = c.as_answer.ensures.made c.args.library.now c.from_same.new.library c.args.t.now c.from_same.ensures.makes (said-so _ c.from_same.result c.from_same.ensures.stands)
+returns-in-Changed-next-clause-makes c =
+    c.as_answer.ensures.made c.args.library.now c.from_same.new.library c.args.t.now c.from_same.ensures.makes
+    (said-so _ c.from_same.result c.from_same.ensures.stands)
 
 pub returns-in-Same-next-2-clause-makes : goal.returns-in-Same-next-2-clause-makes
-returns-in-Same-next-2-clause-makes c = c.as_answer-in-Same-next-2.ensures.made c.args.library.now c.to_same.new.library c.args.t.now c.to_same.ensures.makes (said-so _ c.to_same.result c.to_same.ensures.stands)
+returns-in-Same-next-2-clause-makes c =
+    c.as_answer-in-Same-next-2.ensures.made c.args.library.now c.to_same.new.library c.args.t.now c.to_same.ensures.makes
+    (said-so _ c.to_same.result c.to_same.ensures.stands)
 
 pub returns-in-Changed-next-2-clause-makes : goal.returns-in-Changed-next-2-clause-makes
-returns-in-Changed-next-2-clause-makes c = c.as_answer-in-Changed-next-2.ensures.made c.args.library.now c.trans_known.new.library c.args.t.now c.trans_known.ensures.makes (said-so _ c.trans_known.result c.trans_known.ensures.stands)
+returns-in-Changed-next-2-clause-makes c =
+    c.as_answer-in-Changed-next-2.ensures.made c.args.library.now c.trans_known.new.library c.args.t.now c.trans_known.ensures.makes
+    (said-so _ c.trans_known.result c.trans_known.ensures.stands)
 
 pub from_same-requires-clause-equation : goal.from_same-requires-clause-equation
 from_same-requires-clause-equation c =

@@ -1,7 +1,11 @@
+use Rattle.std.proofs.Common.{sym, subst}
 use Rattle.hol_theorem_library.specs.Library.{store_in}
 use Rattle.hol_conv.proofs.OneSteps.{converts_all, converts_no, converts_beta, converts_named}
 use Rattle.hol_journal.specs.Journal.{theorem_in}
-use Rattle.hol_conv.proofs.Standing.{said-so, said-not}
+use Rattle.hol_tactic_exprs.specs.declared.conv.Conv.{Conv}
+use Rattle.hol_conv.specs.Makes.{StandsIf}
+use Rattle.hol_conv.specs.Leaves.{is_made_anew}
+use Rattle.hol_conv.proofs.Standing.{said-not}
 use Rattle.hol_conv.proofs.over_host.one_step.Goals as goal
 
 pub returns-in-All-clause-converts : goal.returns-in-All-clause-converts
@@ -40,4 +44,6 @@ pub returns-in-Rewr-clause-stands : goal.returns-in-Rewr-clause-stands
 returns-in-Rewr-clause-stands g c said = c.rewritten.ensures.stands
 
 pub returns-in-Host-clause-stands : goal.returns-in-Host-clause-stands
-returns-in-Host-clause-stands g c = rw c.in-Host.is (said-not c.host_conv.result)
+returns-in-Host-clause-stands g c =
+    let theory = c.args.library.now.recorder.theory in
+    subst (λ (leaf : Conv). StandsIf (is_made_anew leaf) theory c.host_conv.result) (sym c.in-Host.is) (said-not theory c.host_conv.result)

@@ -22,3 +22,6 @@ returns-clause-converts g c depth =
     c.requires.leaf c.if-not-spend.ensures.spent
     (converts_rules library.recorder.theory (store_in library) hosts c.args.t.now rules
     (theorem_in c.rules_conv.result) c.rules_conv.ensures.rewrites) depth
+
+pub returns-clause-stands : goal.returns-clause-stands
+returns-clause-stands g c said = c.rules_conv.ensures.stands

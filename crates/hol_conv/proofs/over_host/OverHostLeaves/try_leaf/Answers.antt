@@ -14,3 +14,6 @@ returns-clause-converts g c depth =
     let library = c.args.library.now in
     leaf-tried library.recorder.theory (store_in library) (g.H.Converters.conversions c.args.self.now.hosts.now) c.args.leaf.now c.args.t.now (theorem_in c.one_step.result) c.args.fuel.now.left
     _ c.if-not-spend.ensures.spent c.one_step.ensures.converts depth
+
+pub returns-clause-stands : goal.returns-clause-stands
+returns-clause-stands g c = c.one_step.ensures.stands
