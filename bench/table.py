@@ -210,7 +210,7 @@ def tables(options):
         other = ""
         if options.hol_light is not None:
             other = told(least([options.hol_light, "empty"], empty, room, lambda seconds, _status, _errors: seconds, options.runs)[0])
-        yield f"| the start, which no other row counts | {told(start)} | | {peak:.0f} |{' |' * options.logs} {other} | | | | |"
+        yield f"| the start, which no other row counts | {told(start)} | | {peak:.0f} |{'  |' * options.logs} {other} | | | | |"
         for work in WORKS:
             title, generator, size, half, _, _ = work
             if options.only is not None and options.only not in title + generator:
