@@ -26,6 +26,7 @@ impl<'a> Innermost<'a> {
     }
 
     /// The type of the innermost binder of this name.
+    #[inline(always)]
     pub fn find(&self, name: &str) -> Option<&'a Ty>
         ensures { (bindings : Bindings) → IsInnermost self.now bindings
             → option_map (λ ty. ty.now) result ≡ bound_type bindings name.now }
@@ -33,6 +34,14 @@ impl<'a> Innermost<'a> {
         if self.types.is_empty() {
             return None;
         }
+        self.look_up(name)
+    }
+
+    // The type that a name stands for.
+    #[inline(never)]
+    fn look_up(&self, name: &str) -> Option<&'a Ty>
+        ensures { result ≡ bound self.now name.now }
+    {
         self.types.get(name).copied()
     }
 

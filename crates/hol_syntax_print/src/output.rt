@@ -1,11 +1,15 @@
 // Bytes at the end of a text.
-ghost use Rattle.std.specs.Prelude.{◌≡◌, ◌∷◌, ◌++◌, OnOk, codes};
+ghost use Rattle.std.specs.Prelude.{◌≡◌, [], ◌∷◌, ◌++◌, OnOk, codes};
 ghost use Rattle.std.specs.String.{string_bytes};
 ghost use Rattle.hol_model.specs.Texts.Printing.{type_tree};
+ghost use Rattle.hol_model.specs.Texts.TermGrammar.{infix_symbol};
+ghost use Rattle.hol_model.specs.Texts.Token.{symbol_text};
 ghost use Rattle.hol_model.specs.Texts.Texts.{type_bytes};
+ghost use Rattle.hol_syntax_grammar.specs.Grammar.{infix_here};
 ghost use Rattle.hol_syntax_print.specs.Output.{Appends, opening, closing};
 ghost use Rattle.hol_syntax_print.specs.PrintedType.{placed};
 
+use hol_syntax_grammar::grammar::Infix;
 use hol_types::{Ty, TypeParts};
 use std::alloc::AllocError;
 
@@ -56,7 +60,8 @@ pub fn print_type(ty: &Ty, on_left: bool, out: &mut String) -> Result<(), AllocE
     }
 }
 
-/// Prints a colon, a type and the text `after`. `bool_after` is what that makes of `bool`, which is put at the end as one piece.
+/// Prints a colon, a type and the text `after`. `bool_after` is what that makes of `bool`, put at the end as one piece; inline, its length is known.
+#[inline(always)]
 pub fn print_annotation(
     ty: &Ty,
     after: &str,
@@ -68,10 +73,29 @@ pub fn print_annotation(
 {
     match ty.parts() {
         TypeParts::Bool => out.push_str(bool_after),
-        _ => {
-            append(out, ":")?;
-            print_type(ty, false, out)?;
-            append(out, after)
-        }
+        _ => print_type_between(ty, after, out),
+    }
+}
+
+// Prints a colon, a type and the text `after`.
+fn print_type_between(ty: &Ty, after: &str, out: &mut String) -> Result<(), AllocError>
+    ensures ok { OnOk result (Appends (string_bytes out.old) (string_bytes out.new) (λ rest. 58 ∷ type_bytes (type_tree ty.now) (after.now ++ rest))) }
+{
+    append(out, ":")?;
+    print_type(ty, false, out)?;
+    append(out, after)
+}
+
+/// Puts an infix at the end, with a space on each side.
+pub fn append_infix(out: &mut String, operation: Infix) -> Result<(), AllocError>
+    ensures ok { OnOk result (Appends (string_bytes out.old) (string_bytes out.new)
+        (λ rest. (32 ∷ symbol_text (infix_symbol (infix_here operation)) ++ 32 ∷ []) ++ rest)) }
+{
+    match operation {
+        Infix::Iff => out.push_str(" <=> "),
+        Infix::Implies => out.push_str(" ==> "),
+        Infix::Or => out.push_str(" \\/ "),
+        Infix::And => out.push_str(" /\\ "),
+        Infix::Equal => out.push_str(" = "),
     }
 }

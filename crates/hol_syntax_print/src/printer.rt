@@ -18,16 +18,17 @@ ghost use Rattle.hol_syntax_print.specs.Innermost.{IsInnermost};
 ghost use Rattle.hol_syntax_print.specs.Shape.{shape_tree, joined_tree, IsNamed};
 
 use crate::innermost::Innermost;
-use crate::output::{append, close, open, print_annotation, print_type};
-use crate::shape::{Shape, binder_text, infix_text, is_bare_constant, is_bound, level, shape_of};
+use crate::output::{append, append_infix, close, open, print_annotation, print_type};
+use crate::shape::{Shape, binder_text, is_bare_constant, is_bound, level, shape_of};
 use hol_model::Fault;
 use hol_syntax::Scope;
 use hol_syntax_grammar::grammar::{Binder, Infix};
-use hol_terms::Term;
+use hol_terms::{Parts, Term};
 use hol_types::Ty;
 use std::alloc::{AllocError, Global};
 
 // Prints a variable: its bare name where the innermost binder of that name is its own, else its type too.
+#[inline(never)]
 fn print_variable(
     binders: &Innermost<'_>,
     name: &str,
@@ -47,6 +48,7 @@ fn print_variable(
 }
 
 // Prints a constant: its bare name where that says which constant it is, else its type too.
+#[inline(never)]
 fn print_constant(
     scope: &Scope,
     binders: &Innermost<'_>,
@@ -67,9 +69,30 @@ fn print_constant(
     }
 }
 
-// Prints a term that stands under binders, in parentheses where its form is below the level.
+// Prints a term that stands under binders, in parentheses where its form is below the level. A variable never is.
 #[cycle(print_term)]
+#[inline(always)]
 fn print_term<'a>(
+    term: &'a Term,
+    scope: &Scope,
+    min_level: u8,
+    binders: &mut Innermost<'a>,
+    out: &mut String,
+) -> Result<(), AllocError>
+    ensures ok { (bindings : Bindings) → IsInnermost binders.old bindings → OnOk result (Appends (string_bytes out.old) (string_bytes out.new)
+        (term_bytes (enclose min_level (term_tree (scope_of scope.now) bindings term.now)))) }
+    ensures kept { (bindings : Bindings) → IsInnermost binders.old bindings → OnOk result (IsInnermost binders.new bindings) }
+{
+    match term.parts() {
+        Parts::Variable(name, ty) if min_level <= 20 => print_variable(binders, name, ty, out),
+        _ => print_enclosed(term, scope, min_level, binders, out),
+    }
+}
+
+// Prints a term of any form, in parentheses where its form is below the level. Infixes nest deepest, so they alone are inlined
+// here: each level of a recursion has a small frame.
+#[cycle(print_term)]
+fn print_enclosed<'a>(
     term: &'a Term,
     scope: &Scope,
     min_level: u8,
@@ -89,6 +112,7 @@ fn print_term<'a>(
 
 // Prints a term of this form.
 #[cycle(print_term)]
+#[inline(always)]
 fn print_shape<'a>(
     shape: Shape<'a>,
     scope: &Scope,
@@ -117,6 +141,7 @@ fn print_shape<'a>(
 }
 
 #[cycle(print_term)]
+#[inline(never)]
 fn print_application<'a>(
     function: &'a Term,
     argument: &'a Term,
@@ -134,6 +159,7 @@ fn print_application<'a>(
 }
 
 #[cycle(print_term)]
+#[inline(never)]
 fn print_negation<'a>(
     operand: &'a Term,
     scope: &Scope,
@@ -149,6 +175,7 @@ fn print_negation<'a>(
 }
 
 #[cycle(print_term)]
+#[inline(always)]
 fn print_infix<'a>(
     operation: Infix,
     left: &'a Term,
@@ -163,11 +190,12 @@ fn print_infix<'a>(
 {
     let level = operation.level();
     print_term(left, scope, level + 1, binders, out)?;
-    append(out, infix_text(operation))?;
+    append_infix(out, operation)?;
     print_term(right, scope, level, binders, out)
 }
 
 #[cycle(print_term)]
+#[inline(never)]
 fn print_binding<'a>(
     binder: Binder,
     name: &'a str,

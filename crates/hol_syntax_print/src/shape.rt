@@ -2,7 +2,7 @@
 ghost use Rattle.std.specs.Prelude.{◌≡◌, ◌+◌, ◌<◌, ◌∷◌, ◌++◌, []};
 ghost use Rattle.std.specs.Option.{option_map};
 ghost use Rattle.hol_model.specs.Terms.NamedTerm.{combination};
-ghost use Rattle.hol_model.specs.Texts.TermGrammar.{infix_symbol, binder_symbol};
+ghost use Rattle.hol_model.specs.Texts.TermGrammar.{binder_symbol};
 ghost use Rattle.hol_model.specs.Texts.Token.{symbol_text};
 ghost use Rattle.hol_model.specs.Texts.Printing as printing;
 ghost use Rattle.hol_model.specs.Texts.Printing.{term_tree};
@@ -232,19 +232,6 @@ pub fn level(shape: Shape<'_>) -> u8
         Shape::Not(_) => 14,
         Shape::Join(operation, _, _) => operation.level(),
         Shape::Bind(_, _, _, _) => 0,
-    }
-}
-
-/// An infix with a space on each side.
-pub fn infix_text(operation: Infix) -> &'static str
-    ensures { result.now ≡ 32 ∷ symbol_text (infix_symbol (infix_here operation)) ++ 32 ∷ [] }
-{
-    match operation {
-        Infix::Iff => " <=> ",
-        Infix::Implies => " ==> ",
-        Infix::Or => " \\/ ",
-        Infix::And => " /\\ ",
-        Infix::Equal => " = ",
     }
 }
 
