@@ -69,10 +69,31 @@ fn print_constant(
     }
 }
 
-// Prints a term that stands under binders, in parentheses where its form is below the level. A variable never is.
+// Prints a term that stands under binders, in parentheses where its form is below the level.
 #[cycle(print_term)]
 #[inline(always)]
 fn print_term<'a>(
+    term: &'a Term,
+    scope: &Scope,
+    min_level: u8,
+    binders: &mut Innermost<'a>,
+    out: &mut String,
+) -> Result<(), AllocError>
+    ensures ok { (bindings : Bindings) → IsInnermost binders.old bindings → OnOk result (Appends (string_bytes out.old) (string_bytes out.new)
+        (term_bytes (enclose min_level (term_tree (scope_of scope.now) bindings term.now)))) }
+    ensures kept { (bindings : Bindings) → IsInnermost binders.old bindings → OnOk result (IsInnermost binders.new bindings) }
+{
+    if term.is_var() {
+        print_short(term, scope, min_level, binders, out)
+    } else {
+        print_enclosed(term, scope, min_level, binders, out)
+    }
+}
+
+// Prints a term likewise, and a variable in few steps, since that is never in parentheses.
+#[cycle(print_term)]
+#[inline(never)]
+fn print_short<'a>(
     term: &'a Term,
     scope: &Scope,
     min_level: u8,
@@ -292,6 +313,8 @@ fn print_around(
     ensures { OnOk result (Appends (string_bytes out.old) (string_bytes out.new)
         (λ rest. listed_bytes (scope_of scope.now) terms.now (sign.now ++ term_bytes (term_tree (scope_of scope.now) [] concl.now) rest))) }
 {
+    // A node takes some four bytes: room for most of them at once.
+    out.reserve(4 * concl.nodes() as usize)?;
     let mut binders = Innermost::new(alloc);
     print_listed(&mut binders, scope, terms, out)?;
     append(out, sign)?;
