@@ -1,11 +1,12 @@
 // A refutation as a justification, by a stack of what is begun.
 
+use crate::facts::{Alternatives, Fact};
 use crate::splitting::again;
 use crate::values::{ClauseInstance, Values};
+use crate::witnesses::{Quantified, Witnesses};
 use hol_host::HostFail;
 use hol_just::Just;
 use hol_tactics_forms::{Derivation, Formula, dest_formula, prove_hyp};
-use hol_tactics_refutation::{Alternatives, Fact, Quantified, Witnesses};
 use hol_tactics_search::{Move, Part, Problem, Refutation, Route};
 use hol_terms::Term;
 use std::alloc::Global;

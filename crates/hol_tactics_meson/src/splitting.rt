@@ -1,5 +1,6 @@
 // A goal as smaller goals, before they are refuted one by one.
 
+use crate::facts::{assumed, by_absurdity};
 use hol_host::HostFail;
 use hol_just::{Goal, Just, Step, splice};
 use hol_model::Fault;
@@ -8,7 +9,6 @@ use hol_tactics_forms::{
     disj_cases, eq_mp, excluded_middle, mk_imp, mk_neg, mp, push_copy, refute, sub, sym, to_none,
     to_two, undisch,
 };
-use hol_tactics_refutation::{assumed, by_absurdity};
 use hol_tactics_rules::strip;
 use hol_terms::Term;
 use std::alloc::Global;

@@ -1,8 +1,8 @@
 // Nodes of a refutation as terms of the logic.
 
+use crate::witnesses::Witnesses;
 use hol_host::HostFail;
 use hol_tactics_forms::{copy_terms, with_value};
-use hol_tactics_refutation::Witnesses;
 use hol_tactics_search::{Bindings, DEPTH, Instance, Node, Problem, Symbol, place_of};
 use hol_terms::Term;
 use hol_types::Ty;

@@ -1,16 +1,16 @@
 // The command that words name.
 
+use crate::checking::{Listing, check_file, migrate_file};
 use crate::conversing::converse_over;
 use crate::ending::tell;
 use crate::options::Options;
 use crate::running::run_scripts;
+use crate::words::{command_line, value};
 use anyhow::ensure;
 use clap::ArgMatches;
 use clap::error::ErrorKind;
 use hol_model::Fault;
 use holp_files::holds_no_log;
-use holp_logs::{Listing, check_file, migrate_file};
-use holp_words::{command_line, value};
 
 // How often standard input is named.
 fn count_of_input(names: &[&str]) -> usize {
