@@ -84,9 +84,9 @@ fn print_term<'a>(
     ensures kept { (bindings : Bindings) → IsInnermost binders.old bindings → OnOk result (IsInnermost binders.new bindings) }
 {
     if term.is_var() {
-        print_short(term, scope, min_level, binders, out)
+        print_short(min_level, term, scope, binders, out)
     } else {
-        print_enclosed(term, scope, min_level, binders, out)
+        print_enclosed(term, min_level, scope, binders, out)
     }
 }
 
@@ -94,19 +94,19 @@ fn print_term<'a>(
 #[cycle(print_term)]
 #[inline(never)]
 fn print_short<'a>(
-    term: &'a Term,
-    scope: &Scope,
     min_level: u8,
+    part: &'a Term,
+    scope: &Scope,
     binders: &mut Innermost<'a>,
     out: &mut String,
 ) -> Result<(), AllocError>
     ensures ok { (bindings : Bindings) → IsInnermost binders.old bindings → OnOk result (Appends (string_bytes out.old) (string_bytes out.new)
-        (term_bytes (enclose min_level (term_tree (scope_of scope.now) bindings term.now)))) }
+        (term_bytes (enclose min_level (term_tree (scope_of scope.now) bindings part.now)))) }
     ensures kept { (bindings : Bindings) → IsInnermost binders.old bindings → OnOk result (IsInnermost binders.new bindings) }
 {
-    match term.parts() {
+    match part.parts() {
         Parts::Variable(name, ty) if min_level <= 20 => print_variable(binders, name, ty, out),
-        _ => print_enclosed(term, scope, min_level, binders, out),
+        _ => print_enclosed(part, min_level, scope, binders, out),
     }
 }
 
@@ -114,17 +114,17 @@ fn print_short<'a>(
 // here: each level of a recursion has a small frame.
 #[cycle(print_term)]
 fn print_enclosed<'a>(
-    term: &'a Term,
-    scope: &Scope,
+    whole: &'a Term,
     min_level: u8,
+    scope: &Scope,
     binders: &mut Innermost<'a>,
     out: &mut String,
 ) -> Result<(), AllocError>
     ensures ok { (bindings : Bindings) → IsInnermost binders.old bindings → OnOk result (Appends (string_bytes out.old) (string_bytes out.new)
-        (term_bytes (enclose min_level (term_tree (scope_of scope.now) bindings term.now)))) }
+        (term_bytes (enclose min_level (term_tree (scope_of scope.now) bindings whole.now)))) }
     ensures kept { (bindings : Bindings) → IsInnermost binders.old bindings → OnOk result (IsInnermost binders.new bindings) }
 {
-    let shape = shape_of(term);
+    let shape = shape_of(whole);
     let enclosed = level(shape) < min_level;
     open(out, enclosed)?;
     print_shape(shape, scope, binders, out)?;

@@ -7,10 +7,10 @@ abbrev pub decreases-print_term : goal.decreases-print_term
 decreases-print_term l = 5 * weight l.term.now + 4
 
 abbrev pub decreases-print_short : goal.decreases-print_short
-decreases-print_short l = 5 * weight l.term.now + 3
+decreases-print_short l = 5 * weight l.part.now + 3
 
 abbrev pub decreases-print_enclosed : goal.decreases-print_enclosed
-decreases-print_enclosed l = 5 * weight l.term.now + 2
+decreases-print_enclosed l = 5 * weight l.whole.now + 2
 
 abbrev pub decreases-print_shape : goal.decreases-print_shape
 decreases-print_shape l = 5 * weight_of_parts l.shape + 6
