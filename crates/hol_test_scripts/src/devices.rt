@@ -2,7 +2,7 @@
 use crate::runs::{Setting, run_dripping, run_source};
 use hol_check::check;
 use hol_model::Fault;
-use hol_test_samples::{Drips, Endless, Rows};
+use hol_test_sample_devices::{Drips, Endless, Rows};
 use std::alloc::Global;
 
 // Commands and their answers, with the script of these commands, its output and its log.

@@ -1,7 +1,8 @@
 // Which entries a recorder keeps, and whether a run keeps them.
 use hol_journal::{Inference, Recorder};
 use hol_model::Fault;
-use hol_test_samples::{SAMPLES, run_kept};
+use hol_test_sample_devices::run_kept;
+use hol_test_sample_host::SAMPLES;
 use std::alloc::Global;
 
 // A script of one theorem.

@@ -2,7 +2,7 @@
 use hol_check::{Claim, TermParts, TermView, check, check_log, write_claims, write_entries};
 use hol_device_adapters::FromRead;
 use hol_model::Fault;
-use hol_test_samples::Kept;
+use hol_test_sample_devices::Kept;
 use std::alloc::Global;
 
 /// The claims of a log.

@@ -1,6 +1,6 @@
-//! Runs the files that data/files.txt lists, and prints each file's name with the number of its rows (`hol_test_samples::Rows`),
+//! Runs the files that data/files.txt lists, and prints each file's name with the number of its rows (`hol_test_sample_devices::Rows`),
 //! and before it the title of each row of which something else comes out than is expected, with that. `{60|PIECE}` is a repetition
-//! (`hol_test_samples::expanded`). The scripts run over a host with the sample refiners and conversions, and with functions that
+//! (`hol_test_sample_devices::expanded`). The scripts run over a host with the sample refiners and conversions, and with functions that
 //! answer wrongly or not at all. The ending of a file says what is expected of a script:
 //!
 //! - `rows`: what it writes, at once and as a conversation that reads byte by byte, and as the texts of its records.

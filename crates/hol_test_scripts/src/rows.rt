@@ -5,7 +5,7 @@ use crate::devices::print_session;
 use crate::logs::or_refusal;
 use crate::runs::{Left, Setting, run_dripping};
 use hol_model::Fault;
-use hol_test_samples::{Row, Rows, expanded, push_filled};
+use hol_test_sample_devices::{Row, Rows, expanded, push_filled};
 use std::alloc::Global;
 use std::fs;
 use std::io::Write;

@@ -5,7 +5,8 @@ use crate::counting::{conversions, refiners};
 use hol_host::Table;
 use hol_model::{Fault, Source};
 use hol_script::{Devices, Ended, Summary, converse, run};
-use hol_test_samples::{Drips, Kept, SAMPLES, run_kept};
+use hol_test_sample_devices::{Drips, Kept, run_kept};
+use hol_test_sample_host::SAMPLES;
 use std::alloc::Global;
 use std::cell::Cell;
 

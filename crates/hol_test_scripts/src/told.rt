@@ -1,7 +1,8 @@
 // What is told of a script: messages, notes, and records of its commands.
 use hol_explain::{Origin, Refused, Script, Walk, explain, explain_refusal};
 use hol_model::Fault;
-use hol_test_samples::{Kept, SAMPLES};
+use hol_test_sample_devices::Kept;
+use hol_test_sample_host::SAMPLES;
 use serde_json::Value;
 use std::alloc::Global;
 

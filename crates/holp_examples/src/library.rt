@@ -4,7 +4,7 @@
 use hol_check::check;
 use hol_device_adapters::FromRead;
 use hol_tactics::TACTICS;
-use hol_test_samples::{Ran, run_kept};
+use hol_test_sample_devices::{Ran, run_kept};
 use std::fs;
 use std::io::Write;
 
