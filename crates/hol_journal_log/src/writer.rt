@@ -1,7 +1,6 @@
 // The lines of a log, as they are written.
 ghost use Rattle.std.specs.Prelude.{◌≡◌, ◌≤◌, ◌<◌, ◌+◌, length, List, [], ◌∷◌, ◌++◌, nat_eq, map, Some, slice_get, IfOk, IfErr, IsErrOf, IfSome, OnOk, IsTrue, IsFalse, Contains};
 ghost use Rattle.std.specs.List.{list_any};
-ghost use Rattle.std.specs.Str.{bytes_eq};
 ghost use Rattle.hol_model.specs.Terms.HolType.{bool_type};
 ghost use Rattle.hol_model.specs.Logic.Logic.{unary, binary};
 ghost use Rattle.hol_model.specs.Terms.NamedTerm.{NamedTerm};
@@ -276,9 +275,7 @@ impl<'a> Writer<'a> {
         ensures { IsTrue result → IsTermWritten (written self.now) (written self.now) (variable name.now ty.now) number }
     {
         match self.term_line(number) {
-            Some(TermLine::Variable(written, of)) => {
-                is_same_name(written, name) && self.has_type(of, ty)
-            }
+            Some(TermLine::Variable(written, of)) => written == name && self.has_type(of, ty),
             _ => false,
         }
     }
@@ -290,7 +287,7 @@ impl<'a> Writer<'a> {
     {
         match self.term_line(number) {
             Some(TermLine::Constant(written, of)) => {
-                is_same_name(written, name) && self.has_constant_type(connective, of, ty)
+                written == name && self.has_constant_type(connective, of, ty)
             }
             _ => false,
         }
@@ -799,11 +796,4 @@ impl<'a> Writer<'a> {
         let log = replace(&mut self.log, LogWriter::new(alloc, 0)?);
         log.finish()
     }
-}
-
-// Whether two names are the same. Most are short, so their bytes are compared where they stand, and no words are made of them.
-fn is_same_name(first: &str, second: &str) -> bool
-    ensures { result ≡ bytes_eq first.now second.now }
-{
-    first.as_bytes() == second.as_bytes()
 }
